@@ -140,13 +140,30 @@ def chart(rows, top, file=SPHERE, stems=False):
     return {(stem, s): int(mark) for stem, s, mark in marks if mark != "."}
 
 
+def product_lines(rows, top, by, file):
+    """The lines of `ext products` by each of these classes of the sphere, made in one run."""
+    if not by:
+        return {}
+    lines = ext("products", rows, top, *[f"--by={','.join(map(str, a))}" for a in by], file=file)
+    if len(by) == 1:
+        return {by[0]: lines}
+    found = {}
+    for line in lines:
+        if line.startswith("by "):
+            (a,) = classes(line)
+            found[a] = []
+        else:
+            found[a].append(line)
+    return found
+
+
 def table(rows, top, by=(), file=SPHERE, stems=False):
     """The module's table through the range, with its products by these classes of the sphere. With stems, top is the last stem above the bottom,
     and else the last degree.
 
     The products by h_k are read off the differentials: h_k x is the sum of the classes y of the next row in whose d the term Sq(2^k) x stands,
     since of Milnor's basis in degree 2^k that element alone is no sum of products. So all of them cost one run, without kernels. Those by
-    other classes are made in the rectangle of rows and degrees.
+    other classes are made in the rectangle of rows and degrees, in one run more.
     """
     counts, hits = Counter(), {k: {} for k in range((top + rows * stems).bit_length())}
     everything = []
@@ -164,7 +181,7 @@ def table(rows, top, by=(), file=SPHERE, stems=False):
     def is_in(s, t):
         return s <= rows and t - bottom - s * stems <= top
 
-    products = {}
+    products, others = {}, []
     for a in by:
         k = a[1].bit_length() - 1
         if a == UNIT:
@@ -172,8 +189,9 @@ def table(rows, top, by=(), file=SPHERE, stems=False):
         elif a == h(k):
             products[a] = {x: hits[k].get(x, []) for x in everything if is_in(x[0] + 1, x[1] + a[1])}
         else:
-            lines = ext("products", rows, top + rows * stems, "--by", ",".join(map(str, a)), file=file)
-            products[a] = {x: total for x, *total in map(classes, lines) if is_in(x[0] + a[0], x[1] + a[1])}
+            others.append(a)
+    for a, lines in product_lines(rows, top + rows * stems, others, file).items():
+        products[a] = {x: total for x, *total in map(classes, lines) if is_in(x[0] + a[0], x[1] + a[1])}
     return Table(bottom, dict(counts), products)
 
 

@@ -44,7 +44,9 @@ fn told(alloc: Global, command: &Command) -> Result<String, Fault> {
         Command::Dump(common) => tell(&mut text, "dump", common)?,
         Command::Products { common, by } => {
             tell(&mut text, "products", common)?;
-            tell_class(&mut text, "by", by)?;
+            for class in by.as_slice() {
+                tell_class(&mut text, "by", class)?;
+            }
         }
         Command::Massey { common, a, b, c } => {
             tell(&mut text, "massey", common)?;

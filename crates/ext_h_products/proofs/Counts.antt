@@ -1,6 +1,6 @@
--- How many classes the sphere has at a place of row 1, and what is told of a class that is not there.
-use Rattle.std.proofs.Common.{◌≡◌, inl, inr, ℕ, ◌^◌, ◌<◌, ◌≤◌, ℤ, pos, ◌+ℤ◌, ◌-ℤ◌, Bool, false, List, Option, Some, None, refl, ap, sym, subst, ◌∙◌, arith}
-use Rattle.std.specs.Prelude.{MatchOption, IsOkAnd, Result, Err, option_map, unwrap_or, nat_lt, if◌then◌else◌}
+-- How many classes the sphere has at a place of row 1.
+use Rattle.std.proofs.Common.{◌≡◌, inl, inr, ℕ, ◌^◌, ◌≤◌, ℤ, pos, ◌-ℤ◌, Bool, false, Option, Some, None, refl, ap, sym, ◌∙◌, arith}
+use Rattle.std.specs.Prelude.{option_map, unwrap_or, nat_lt, if◌then◌else◌}
 use Rattle.std.specs.Int.{is_power_of_two}
 use Rattle.std.proofs.lemmas.Bool.{cases_lt, le-ltb}
 use Rattle.std.proofs.lemmas.Int.{ints}
@@ -12,11 +12,8 @@ use Rattle.lift_laws.specs.Lifts.{Resolution, IsCanonical, IsSphere}
 use Rattle.lift_laws.specs.Products.{count_of}
 use Rattle.chain_map.specs.Classes.{class_count, missing_in}
 use Rattle.h_laws.specs.Products.{RowOneHasSquares, RowOneIsPowers}
-use Rattle.ext_products.specs.declared.refusal.Refusal.{Refusal}
-use Rattle.ext_products.specs.declared.refusal.Refusal.TheVariants.{NoClass}
-use Rattle.ext_products.specs.declared.refusal.Named.TheVariants.{By}
-use Rattle.ext_products.specs.Products.{IsProductsText, IsProductsAnswer}
 use Rattle.ext_products.proofs.Answers.{none_past}
+use Rattle.ext_h_products.specs.RowOne.{IsH, OfSpheres}
 
 module _ (q : Resolution) (range : Range) (canonical : IsCanonical q range.s range.t) (sphere : IsSphere q) where
   counted : (t : ℤ) (k : ℕ) → t ≡ pos k → class_count q 1 t ≡ count_of q 1 k
@@ -50,10 +47,14 @@ module _ (q : Resolution) (range : Range) (canonical : IsCanonical q range.s ran
           counted t k degree ∙ at k degree
 
 -- a class behind the last at its place is not there
-pub refused : (r q : Resolution) (range : Range) (by : Class) (count : ℕ) → by.s ≡ 1 → class_count q 1 by.t ≡ count → count ≤ by.i → IsProductsAnswer range by r q (Err (NoClass By by count))
-refused r q range by count row is few =
+pub missing : (q : Resolution) (by : Class) (count : ℕ) → by.s ≡ 1 → class_count q 1 by.t ≡ count → count ≤ by.i → missing_in q by ≡ Some count
+missing q by count row is few =
     let here : class_count q by.s by.t ≡ count = ap (λ (s : ℕ). class_count q s by.t) row ∙ is in
-    let missing : missing_in q by ≡ Some count =
-    ap (λ (n : ℕ). if nat_lt by.i n then None else Some n) here ∙ ap (λ (b : Bool). if b then None else Some count) (le-ltb by.i count few) in
-    let answer : Result (List ℕ) Refusal = Err (NoClass By by count) in
-    subst (λ (o : Option ℕ). MatchOption o (IsOkAnd answer (IsProductsText range by r q)) (λ n. answer ≡ Err (NoClass By by n))) (sym missing) refl
+    ap (λ (n : ℕ). if nat_lt by.i n then None else Some n) here ∙ ap (λ (b : Bool). if b then None else Some count) (le-ltb by.i count few)
+
+-- h_v is there
+pub h_there : RowOneHasSquares → (range : Range) (by : Class) → IsH range by → OfSpheres range (λ q. missing_in q by ≡ None)
+h_there squares range by is q canonical sphere =
+    let v = is.exponent in
+    let one = count_one q range canonical sphere squares (pos (2 ^ v)) v refl is.row is.degree in
+    ap (missing_in q) (sym is.is) ∙ ap (λ (n : ℕ). if nat_lt 0 n then None else Some n) one

@@ -18,7 +18,7 @@ use Rattle.ext_chart.specs.Classes.{product_lines_text}
 use Rattle.ext_products.specs.declared.refusal.Refusal.{Refusal}
 use Rattle.ext_products.specs.declared.refusal.Refusal.TheVariants.{NoClass}
 use Rattle.ext_products.specs.declared.refusal.Named.TheVariants.{By}
-use Rattle.ext_products.specs.Products.{OneEach, resolution, factors, IsProductLine, IsProductsText, IsProductsAnswer}
+use Rattle.ext_products.specs.Products.{OneEach, resolution, factors, IsProductLine, IsProductsText, IsAnswerOfOne}
 use Rattle.ext_products.proofs.OneEach.{OneEach-all}
 use Rattle.ext_products.proofs.Factors.{IsFactor, are_factors, factors-same}
 use Rattle.ext_h_products.specs.RowOne.{h_named, in_row_one, IsLineReadOff, IsAnswerOverImages}
@@ -70,7 +70,7 @@ module _ (lifts : EachClassLifts) (squares : RowOneHasSquares) (read_off : Class
 
 module _ (lifts : EachClassLifts) (squares : RowOneHasSquares) (read_off : ClassesWithHAreReadOffImages) (images : BareTable) (range : Range) (v : ℕ) (some : 1 ≤ range.s) (reach : 2 ^ v ≤ range.t)
     (lines : List ProductLine) (each : OneEach (IsLineReadOff (resolution_in images) (2 ^ v)) (factors (resolution_in images) range (in_row_one (2 ^ v))) lines) (text : List ℕ) (told : text ≡ product_lines_text lines) where
-  pub answer : IsAnswerOverImages (IsProductsAnswer range (h_named v)) images range (Ok text)
+  pub answer : IsAnswerOverImages (IsAnswerOfOne range (h_named v)) images range (Ok text)
   answer are table q canonical canonical_q sphere =
       let r : Resolution = resolution images.resolved.plain table in
       let b : Resolution = resolution_in images in

@@ -16,6 +16,17 @@ use Rattle.ext_products.specs.Products.{resolution, IsLine, Telling}
 abbrev pub h_named : ℕ → Class
 h_named v = record { s = 1; t = pos (2 ^ v); i = 0 }
 
+-- the class is an h_v in the range
+pub record IsH (range : Range) (class : Class) : Type 0 where
+  pub exponent : ℕ
+  pub is : h_named exponent ≡ class
+  pub row : 1 ≤ range.s
+  pub degree : 2 ^ exponent ≤ range.t
+
+-- it holds of the sphere's canonical resolution through the range
+abbrev pub OfSpheres : Range → (Resolution → Type 0) → Type 0
+OfSpheres range Holds = (q : Resolution) → IsCanonical q range.s range.t → IsSphere q → Holds q
+
 -- the images go through the range
 abbrev pub ReachThrough : Range → BareTable → Type 0
 ReachThrough range images = (s : ℕ) → s ≤ range.s → range.t < length (row_of (squares_of images.rows) s)

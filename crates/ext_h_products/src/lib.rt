@@ -1,9 +1,10 @@
-//! The output of `products` with a class of row 1, read off the images of the module's generators.
+//! The output of `products` with classes of row 1, read off the images of the module's generators.
 #![tactic(auto)]
 
+mod found;
 mod lines;
 mod power;
 mod products;
 
-pub use power::exponent_in;
+pub use found::{are_in_row_one, find_each};
 pub use products::h_products_text;

@@ -3,7 +3,7 @@ ghost use Rattle.std.specs.Prelude.{◌≡◌, ℕ, ◌^◌, ◌≤◌, pos, fal
 ghost use Rattle.std.specs.Int.{is_power_of_two};
 
 /// The v for which the degree `t` is 2^v, where there is one and the degree is at most `last`.
-pub fn exponent_in(t: i32, last: u16) -> Option<u32>
+pub(crate) fn exponent_in(t: i32, last: u16) -> Option<u32>
     ensures is { IfSome result (λ v. t ≡ pos (2 ^ v)) }
     ensures within { IfSome result (λ v. 2 ^ v ≤ last) }
     ensures none { IfNone result ((n : ℕ) → t ≡ pos n → n ≤ last → is_power_of_two n ≡ false) }

@@ -1,4 +1,4 @@
--- There is one answer to what is asked of products.
+-- There is one answer to what is asked of the products with one class.
 use Rattle.std.proofs.Common.{◌≡◌, ℕ, ◌+◌, ◌<◌, ◌≤◌, inl, inr, ℤ, pos, ◌+ℤ◌, ◌-ℤ◌, Bool, true, false, List, [], length, refl, ap, sym, subst, ◌∙◌, arith}
 use Rattle.std.specs.Prelude.{Option, Some, None, MatchOption, Result, Ok, Err, IsOkAnd, option_map, unwrap_or, nat_lt, if◌then◌else◌}
 use Rattle.std.proofs.lemmas.Bool.{cases_lt}
@@ -22,7 +22,7 @@ use Rattle.ext_chart.specs.Classes.{product_lines_text}
 use Rattle.ext_products.specs.declared.refusal.Refusal.{Refusal}
 use Rattle.ext_products.specs.declared.refusal.Refusal.TheVariants.{NoClass}
 use Rattle.ext_products.specs.declared.refusal.Named.TheVariants.{By}
-use Rattle.ext_products.specs.Products.{OneEach, factors, IsProductLine, IsProductsText, IsProductsAnswer, HasAnswer, HasOneAnswer}
+use Rattle.ext_products.specs.Products.{OneEach, factors, IsProductLine, IsProductsText, IsAnswerOfOne, HasAnswer}
 use Rattle.ext_products.proofs.OneEach.{OneEach-unique, OneEach-made}
 use Rattle.ext_products.proofs.Factors.{IsFactor, are_factors}
 
@@ -38,21 +38,12 @@ line-unique r q a x y z p k =
     let same : line_of y.s y.t y.i y.target_s y.target_t y.value ≡ line_of z.s z.t z.i z.target_s z.target_t z.value = cc in
     same
 
-text-unique : (range : Range) (by : Class) (r q : Resolution) (x y : List ℕ) → IsProductsText range by r q x → IsProductsText range by r q y → x ≡ y
+pub text-unique : (range : Range) (by : Class) (r q : Resolution) (x y : List ℕ) → IsProductsText range by r q x → IsProductsText range by r q y → x ≡ y
 text-unique range by r q x y p k =
     let a = class_is_once q by p.a k.a p.at k.at in
     let here : OneEach (IsProductLine r q k.a) (factors r range k.a) p.lines = subst (λ (c : ClassAbove). OneEach (IsProductLine r q c) (factors r range c) p.lines) a p.are_lines in
     let lines : p.lines ≡ k.lines = OneEach-unique (IsProductLine r q k.a) (line-unique r q k.a) (factors r range k.a) p.lines k.lines here k.are_lines in
     p.is ∙ (ap product_lines_text lines ∙ sym k.is)
-
-answer-unique : (range : Range) (by : Class) (r q : Resolution) (missing : Option ℕ) (x y : Result (List ℕ) Refusal) → MatchOption missing (IsOkAnd x (IsProductsText range by r q)) (λ count. x ≡ Err (NoClass By by count)) → MatchOption missing (IsOkAnd y (IsProductsText range by r q)) (λ count. y ≡ Err (NoClass By by count)) → x ≡ y
-answer-unique range by r q (Some count) x y p k = p ∙ sym k
-answer-unique range by r q None (Ok x) (Ok y) p k = ap (λ (t : List ℕ). Ok t) (text-unique range by r q x y p k)
-answer-unique range by r q None (Ok x) (Err e) p k = absurd k
-answer-unique range by r q None (Err e) y p k = absurd p
-
-pub answers-unique : (range : Range) (by : Class) → HasOneAnswer (IsProductsAnswer range by)
-answers-unique range by r q a b p k = answer-unique range by r q (missing_in q by) a b p k
 
 -- ---- one
 
@@ -132,6 +123,6 @@ answer-by : (range : Range) (by : Class) (r q : Resolution) (count : ℕ) (there
 answer-by range by r q count true text = let made = text refl in (Ok made.0, made.1)
 answer-by range by r q count false text = (Err (NoClass By by count), refl)
 
-pub answers-exist : EachClassLifts → LiftsGiveOneProduct → (range : Range) (by : Class) → HasAnswer (IsProductsAnswer range by) range
-answers-exist lifts one range by r q canonical canonical_q sphere =
+pub one-exists : EachClassLifts → LiftsGiveOneProduct → (range : Range) (by : Class) → HasAnswer (IsAnswerOfOne range by) range
+one-exists lifts one range by r q canonical canonical_q sphere =
     answer-by range by r q (class_count q by.s by.t) (nat_lt by.i (class_count q by.s by.t)) (λ e. text-exists lifts one r q range by canonical canonical_q sphere (found q by (above_of q.base.bottom by.t) refl (grind (arith, nat_tests, e))))

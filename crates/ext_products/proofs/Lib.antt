@@ -4,3 +4,4 @@ pub mod OneEach
 pub mod SphereTables
 pub mod Transport
 pub mod Answers
+pub mod Several

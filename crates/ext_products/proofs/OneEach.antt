@@ -17,6 +17,12 @@ OneEach-all P R S f [] (y ∷ ys) all h = absurd h
 OneEach-all P R S f (x ∷ xs) [] all h = absurd h
 OneEach-all P R S f (x ∷ xs) (y ∷ ys) all h = (f x y (All-head P x xs all) h.0, OneEach-all P R S f xs ys (All-tail P x xs all) h.1)
 
+pub OneEach-map : {A B : Type 0} (R S : A → B → Type 0) → ((x : A) (y : B) → R x y → S x y) → (xs : List A) (ys : List B) → OneEach R xs ys → OneEach S xs ys
+OneEach-map R S f [] [] h = tt
+OneEach-map R S f [] (y ∷ ys) h = absurd h
+OneEach-map R S f (x ∷ xs) [] h = absurd h
+OneEach-map R S f (x ∷ xs) (y ∷ ys) h = (f x y h.0, OneEach-map R S f xs ys h.1)
+
 pub OneEach-unique : {A B : Type 0} (R : A → B → Type 0) → ((x : A) (y z : B) → R x y → R x z → y ≡ z) → (xs : List A) (ys zs : List B) → OneEach R xs ys → OneEach R xs zs → ys ≡ zs
 OneEach-unique R one [] [] [] h k = refl
 OneEach-unique R one [] [] (z ∷ zs) h k = absurd k

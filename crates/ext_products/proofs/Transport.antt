@@ -39,8 +39,8 @@ use Rattle.ext_chart.specs.Classes.{product_lines_text}
 use Rattle.ext_products.specs.declared.refusal.Refusal.{Refusal}
 use Rattle.ext_products.specs.declared.refusal.Refusal.TheVariants.{NoClass}
 use Rattle.ext_products.specs.declared.refusal.Named.TheVariants.{By}
-use Rattle.ext_products.specs.Products.{OneEach, resolution, factors, IsProductLine, IsProductsText, IsProductsAnswer, IsAnswerOver, IsAnswerIn}
-use Rattle.ext_products.specs.Inside.{reach_of, IsLineOver}
+use Rattle.ext_products.specs.Products.{OneEach, resolution, factors, IsProductLine, IsProductsText, IsAnswerOfOne, IsAnswerOver, IsAnswerIn}
+use Rattle.ext_products.specs.Inside.{reach_of, IsInSphere, IsLineOver}
 use Rattle.ext_products.proofs.OneEach.{OneEach-all}
 use Rattle.ext_products.proofs.Factors.{IsFactor, are_factors, factors-same}
 use Rattle.ext_products.proofs.Answers.{none_past}
@@ -184,19 +184,24 @@ module _ (one : LiftsGiveOneProduct) (modules : ModulesAreSteenrodModules)
 -- ---- what is told
 
 module _ (table sphere : Staircase) (range : Range) (by : Class) (are_q : IsCanonicalIn (reach_of range by) sphere) (is_sphere : IsSphere (resolution_of sphere)) (is_sphere_module : sphere.resolved.plain ≡ derived_module sphere_file) where
-  pub refused-answer : (count : ℕ) → missing_in (through (reach_of range by) sphere) by ≡ Some count → IsAnswerIn (IsProductsAnswer range by) table range (Err (NoClass By by count))
+  pub there-answer : missing_in (through (reach_of range by) sphere) by ≡ None → IsInSphere range by
+  there-answer there =
+      let P : SteenrodModule → Type 0 = λ m. (full : List (List Content)) → IsCanonicalTable (module_over m) range.s range.t full → missing_in (resolution m full) by ≡ None in
+      subst P is_sphere_module (λ full is_full. sym (same_missing sphere range by are_q full is_full is_sphere.bottom) ∙ there)
+
+  pub refused-answer : (count : ℕ) → missing_in (through (reach_of range by) sphere) by ≡ Some count → IsAnswerIn (IsAnswerOfOne range by) table range (Err (NoClass By by count))
   refused-answer count missed =
       let answer : Result (List ℕ) Refusal = Err (NoClass By by count) in
-      let P : SteenrodModule → Type 0 = λ m. (full : List (List Content)) → IsCanonicalTable (module_over m) range.s range.t full → IsProductsAnswer range by (through range table) (resolution m full) answer in
+      let P : SteenrodModule → Type 0 = λ m. (full : List (List Content)) → IsCanonicalTable (module_over m) range.s range.t full → IsAnswerOfOne range by (through range table) (resolution m full) answer in
       subst P is_sphere_module (λ full is_full.
       let none = sym (same_missing sphere range by are_q full is_full is_sphere.bottom) ∙ missed in
       subst (λ (o : Option ℕ). MatchOption o (IsOkAnd answer (IsProductsText range by (through range table) (resolution sphere.resolved.plain full))) (λ n. answer ≡ Err (NoClass By by n))) (sym none) refl)
 
   module _ (one : LiftsGiveOneProduct) (modules : ModulesAreSteenrodModules) (h : IsTable table) (hq : IsTable sphere) (whole : IsThrough range table.rows) (near : IsThrough (reach_of range by) sphere.rows) where
-    pub text-answer : (a : Place) → IsPlaceOf sphere (reach_of range by) by a → missing_in (through (reach_of range by) sphere) by ≡ None → (lines : List ProductLine) → OneEach (IsLineOver table sphere a) (factors (resolution_of table) range (class_above a)) lines → (text : List ℕ) → text ≡ product_lines_text lines → IsAnswerOver (IsProductsAnswer range by) table range (Ok text)
+    pub text-answer : (a : Place) → IsPlaceOf sphere (reach_of range by) by a → missing_in (through (reach_of range by) sphere) by ≡ None → (lines : List ProductLine) → OneEach (IsLineOver table sphere a) (factors (resolution_of table) range (class_above a)) lines → (text : List ℕ) → text ≡ product_lines_text lines → IsAnswerOver (IsAnswerOfOne range by) table range (Ok text)
     text-answer a is there lines are text told all =
         let answer : Result (List ℕ) Refusal = Ok text in
-        let P : SteenrodModule → Type 0 = λ m. (full : List (List Content)) → IsCanonicalTable (module_over m) range.s range.t full → IsProductsAnswer range by (through range table) (resolution m full) answer in
+        let P : SteenrodModule → Type 0 = λ m. (full : List (List Content)) → IsCanonicalTable (module_over m) range.s range.t full → IsAnswerOfOne range by (through range table) (resolution m full) answer in
         let row_within = is.inside.row_within in
         let near_range = within-reach range by (bottom_of sphere.resolved) is_sphere.bottom a.above is.degree in
         subst P is_sphere_module (λ full is_full.

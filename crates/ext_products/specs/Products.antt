@@ -1,7 +1,9 @@
 -- What is told of the products of a class of the sphere with the classes of a module, through a range (Adams, On the structure and
 -- applications of the Steenrod algebra; Bruner, Calculation of large Ext modules).
-use Rattle.std.specs.Prelude.{List, [], ◌∷◌, ⊤, ◌≡◌, ℕ, ◌+◌, ◌-◌, ℤ, pos, ◌+ℤ◌, Bool, map, MatchOption, Result, Err, IsOkAnd}
+use Rattle.std.specs.Prelude.{List, [], ◌∷◌, ◌++◌, ⊤, ◌≡◌, ℕ, ◌+◌, ◌-◌, ℤ, pos, ◌+ℤ◌, Bool, true, false, nat_lt, length, codes, decimal, map, Option, None, option_map, MatchOption, Result, Ok, Err, IsOkAnd, ◌↔◌}
+use Rattle.std.specs.Fmt.{signed_decimal}
 use Rattle.std.specs.List.{flat_map, range_with_len}
+use Rattle.std.specs.Option.{option_or}
 use Rattle.bidegree.specs.declared.range.Range.{Range}
 use Rattle.bidegree.specs.declared.class.Class.{Class}
 use Rattle.finite_module.specs.Module.{Module as SteenrodModule}
@@ -72,11 +74,54 @@ pub record IsProductsText (range : Range) (by : Class) (r q : Resolution) (text 
   pub are_lines : OneEach (IsProductLine r q a) (factors r range a) lines
   pub is : text ≡ product_lines_text lines
 
--- What is told of the products with the class `by`, where r and q are the resolutions of the module and of the sphere through the
--- range: the text, or that the sphere has no such class.
-abbrev pub IsProductsAnswer : Range → Class → Resolution → Resolution → Result (List ℕ) Refusal → Type 0
-IsProductsAnswer range by r q answer = MatchOption (missing_in q by) (IsOkAnd answer (IsProductsText range by r q))
+-- What is told of the products with one class, where r and q are the resolutions of the module and of the sphere through the range: the
+-- text, or that the sphere has no such class.
+abbrev pub IsAnswerOfOne : Range → Class → Resolution → Resolution → Result (List ℕ) Refusal → Type 0
+IsAnswerOfOne range by r q answer = MatchOption (missing_in q by) (IsOkAnd answer (IsProductsText range by r q))
     (λ count. answer ≡ Err (NoClass By by count))
+
+-- ---- of several classes
+
+-- the line that names a class
+abbrev pub name_line : Class → List ℕ
+name_line by = codes "by (" ++ (decimal by.s ++ (codes "," ++ (signed_decimal by.t ++ (codes "," ++ (decimal by.i ++ codes ")\n")))))
+
+-- the text of the products with a class, behind the line that names it where it is not alone
+abbrev pub headed : Bool → Class → List ℕ → List ℕ
+headed false by text = text
+headed true by text = name_line by ++ text
+
+-- the texts of the products with classes, one behind another
+abbrev pub headed_texts : Bool → List Class → List (List ℕ) → List ℕ
+headed_texts named (by ∷ others) (text ∷ texts) = headed named by text ++ headed_texts named others texts
+headed_texts named others texts = []
+
+-- text has the lines of the products with each of the classes, in their order
+pub record AreProductsTexts (range : Range) (by : List Class) (r q : Resolution) (text : List ℕ) : Type 0 where
+  pub texts : List (List ℕ)
+  pub each : OneEach (λ class t. IsProductsText range class r q t) by texts
+  pub is : text ≡ headed_texts (nat_lt 1 (length by)) by texts
+
+-- the first of the classes that the resolution has not, with how many there are at its place
+abbrev pub first_missing : Resolution → List Class → Option (Class × ℕ)
+first_missing q [] = None
+first_missing q (by ∷ others) = option_or (option_map (λ count. (by, count)) (missing_in q by)) (first_missing q others)
+
+-- What is told of the products with the classes: the text, or that the sphere has not the first of them that is not there.
+abbrev pub IsProductsAnswer : Range → List Class → Resolution → Resolution → Result (List ℕ) Refusal → Type 0
+IsProductsAnswer range by r q answer = MatchOption (first_missing q by) (IsOkAnd answer (AreProductsTexts range by r q))
+    (λ missing. answer ≡ Err (NoClass By missing.0 missing.1))
+
+-- The law: of one class that is what is told of it alone.
+abbrev pub ProductsAnswerOfOne : Type 0
+ProductsAnswerOfOne = (range : Range) (by : Class) (r q : Resolution) (answer : Result (List ℕ) Refusal) →
+    IsProductsAnswer range (by ∷ []) r q answer ↔ IsAnswerOfOne range by r q answer
+
+-- The law: of classes that are told one by one, it is their texts, each behind the line that names its class where there are several.
+abbrev pub ProductsAnswerOfEach : Type 0
+ProductsAnswerOfEach = (range : Range) (by : List Class) (r q : Resolution) (texts : List (List ℕ)) →
+    OneEach (λ class text. IsAnswerOfOne range class r q (Ok text)) by texts →
+    IsProductsAnswer range by r q (Ok (headed_texts (nat_lt 1 (length by)) by texts))
 
 -- ---- what is told of the classes of two resolutions, of a module and of the sphere
 

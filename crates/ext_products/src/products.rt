@@ -1,12 +1,13 @@
-//! The lines of the products with a class of the sphere, or the refusal of that class.
-ghost use Rattle.std.specs.Prelude.{◌≡◌, ◌≢◌, ◌≤◌, IfOk, IfErr, Ok, Err};
+//! The lines of the products with classes of the sphere, or the refusal of a class.
+ghost use Rattle.std.specs.Prelude.{◌≡◌, ◌≢◌, ◌≤◌, IfOk, IfErr, OnOk, Ok, Err};
 ghost use Rattle.bidegree.specs.declared.range.TheConstants.{MAX_S, MAX_T};
 ghost use Rattle.square.specs.Tables.{IsThrough};
-ghost use Rattle.ext_products.specs.Products.{IsProductsAnswer, IsAnswerOver, IsAnswerIn};
-ghost use Rattle.ext_products.specs.Inside.{reach_of};
+ghost use Rattle.ext_products.specs.Products.{IsAnswerOfOne, IsProductsAnswer, IsAnswerOver, IsAnswerIn};
+ghost use Rattle.ext_products.specs.Inside.{reach_of, IsInSphere};
 ghost use Rattle.ext_products.specs.declared.refusal.ClassesFault.TheVariants.{Refused, Memory as OutOfMemory};
 ghost use Rattle.ext_products.specs.declared.refusal.Refusal.{Refusal as WhyNot};
 
+use crate::headed::add_headed;
 use crate::lines::lines;
 use crate::refusal::{ClassesFault, Named, Refusal};
 use crate::sphere::sphere_table;
@@ -16,12 +17,40 @@ use ext_chart::product_lines;
 use std::alloc::Global;
 use yoneda::{known, place_of};
 
-/// A line for each class of the table's module whose product with the class `by` of the sphere is in the range: the class, and the
-/// product as a sum of classes. They stand by row, then by degree, then by number. The sphere's resolution is made as far as `by`.
+/// For each of the classes `by` of the sphere, in their order, a line for each class of the table's module whose product with it is in the
+/// range: the class, and the product as a sum of classes. They stand by row, then by degree, then by number. Where there are several
+/// classes `by`, a line that names each stands in front of its lines.
+///
+/// # Errors
+/// `Refused` for the first class that the sphere has not through the range. `Memory` if allocation fails.
+pub fn products_text(
+    alloc: Global,
+    table: &Source<'_>,
+    range: Range,
+    by: &[Class],
+) -> Result<Vec<u8>, ClassesFault>
+    requires rows { range.s ≤ MAX_S }
+    requires degrees { range.t ≤ MAX_T }
+    requires through { IsThrough range table.now.rows }
+    ensures text { IfOk result (λ text. IsAnswerOver (IsProductsAnswer range by.now) table.now range (Ok text.items)) }
+    ensures refused { IfErr result (λ e. e ≢ OutOfMemory →
+        (refusal : WhyNot) × (e ≡ Refused refusal) ×
+        IsAnswerIn (IsProductsAnswer range by.now) table.now range (Err refusal)) }
+{
+    let named = by.len() > 1;
+    let mut text = Vec::new(alloc);
+    for class in by {
+        let lines = text_of_one(alloc, table, range, *class)?;
+        add_headed(alloc, named, *class, lines.as_slice(), &mut text)?;
+    }
+    Ok(text)
+}
+
+/// The lines of the products with one class. The sphere's resolution is made as far as that.
 ///
 /// # Errors
 /// `Refused` where the sphere has not this class through the range. `Memory` if allocation fails.
-pub fn products_text(
+fn text_of_one(
     alloc: Global,
     table: &Source<'_>,
     range: Range,
@@ -30,10 +59,11 @@ pub fn products_text(
     requires rows { range.s ≤ MAX_S }
     requires degrees { range.t ≤ MAX_T }
     requires through { IsThrough range table.now.rows }
-    ensures text { IfOk result (λ text. IsAnswerOver (IsProductsAnswer range by) table.now range (Ok text.items)) }
+    ensures text { IfOk result (λ text. IsAnswerOver (IsAnswerOfOne range by) table.now range (Ok text.items)) }
+    ensures there { OnOk result (IsInSphere range by) }
     ensures refused { IfErr result (λ e. e ≢ OutOfMemory →
         (refusal : WhyNot) × (e ≡ Refused refusal) ×
-        IsAnswerIn (IsProductsAnswer range by) table.now range (Err refusal)) }
+        IsAnswerIn (IsAnswerOfOne range by) table.now range (Err refusal)) }
 {
     finite_module::modules_are_graded_modules();
     lift_laws::lifts_give_one_product();

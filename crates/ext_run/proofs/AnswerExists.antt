@@ -64,7 +64,7 @@ pub record TableLaws : Type 0 where
 
 pub record Laws : Type 0 where
   pub tables : TableLaws
-  pub products : (range : Range) (by : Class) → HasAnswer (IsProductsAnswer range by) range
+  pub products : (range : Range) (by : List Class) → HasAnswer (IsProductsAnswer range by) range
   pub brackets : (range : Range) (a b c : Class) → HasAnswer (IsBracketAnswer range a b c) range
 
 -- ---- the table

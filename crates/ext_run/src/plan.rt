@@ -6,7 +6,7 @@ ghost use Rattle.ext_run.specs.declared.plan.Form as Form;
 ghost use Rattle.ext_run.specs.declared.plan.Plan as Plan;
 
 use bidegree::{Class, Range, Shape};
-use ext_words::{Build, Command, Common};
+use ext_words::{Build, Classes, Command, Common};
 use sq_calc::Mono;
 
 /// Where a module comes from.
@@ -28,13 +28,13 @@ pub enum Sheet {
     Summary,
 }
 
-/// What is printed of a resolution.
-#[derive(Clone, Copy, Debug)]
+/// What is printed of a resolution. It is no `Copy` type, since `Classes` has memory.
+#[derive(Debug, Drop)]
 pub enum Form {
     /// This sheet, on the squares of the range that are of this shape.
     Squares(Sheet, Shape),
-    /// The products of this class of the sphere with the classes of the module.
-    Products(Class),
+    /// The products of these classes of the sphere with the classes of the module.
+    Products(Classes),
     /// The bracket of the classes `a` and `b` of the sphere with the class `c` of the module.
     Bracket { a: Class, b: Class, c: Class },
 }

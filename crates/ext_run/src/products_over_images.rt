@@ -1,14 +1,18 @@
-//! Products with a class of the sphere on a resolution of which the images of generators are made, and no table of squares.
-ghost use Rattle.std.specs.Prelude.{◌≡◌, ◌<◌, ◌≤◌, ◌⊎◌, Err, IfErr};
+//! Products with classes of the sphere on a resolution of which the images of generators are made, and no table of squares.
+ghost use Rattle.std.specs.Prelude.{◌≡◌, ◌==◌, ◌<◌, ◌≤◌, ◌⊎◌, true, Err, IfErr};
+ghost use Rattle.std.specs.List.{All, list_all};
 ghost use Rattle.bidegree.specs.declared.range.TheConstants.{MAX_S, MAX_T};
 ghost use Rattle.chain_map.specs.Sources.{AreWhole};
+ghost use Rattle.ext_h_products.specs.RowOne.{IsH};
 ghost use Rattle.ext_report.specs.declared.failure.Failure.TheVariants.{Memory as WantOfMemory};
 ghost use Rattle.ext_run.specs.declared.plan.Form.TheVariants.{Products as ProductsOf};
 ghost use Rattle.ext_run.specs.Forms.{IsInForm, IsRefusedIn};
 ghost use Rattle.ext_run.specs.Work.{HasAnswer, answer_of};
 
+use crate::row_one::{h_products_over, look_for};
 use bidegree::{Class, Range};
 use chain_map::{Held, Source};
+use ext_h_products::are_in_row_one;
 use ext_products::products_text;
 use ext_report::Failure;
 use finite_module::Module;
@@ -24,63 +28,82 @@ use std::sync::Wait;
 use std::thread::Threads;
 use std::time::Clock;
 
-/// The lines of the products with a class of the sphere, from the images of the generators of the module's resolution through the range.
+/// The lines of the products with classes of the sphere, from the images of the generators of the module's resolution through the range.
+/// Where all of the classes are of row 1 no class is lifted, and one that is not there is refused before anything is resolved.
 pub(crate) fn products_alone(
     alloc: Global,
     resolved: Module,
     range: Range,
-    by: Class,
+    by: &[Class],
 ) -> Result<Vec<u8>, Failure>
     requires rows { range.s ≤ MAX_S }
     requires degrees { range.t ≤ MAX_T }
-    ensures told { HasAnswer result → IsInForm (ProductsOf by) range resolved.plain (answer_of result) }
-    ensures why { IfErr result (λ e. (e ≡ WantOfMemory) ⊎ IsRefusedIn (ProductsOf by) range resolved.plain (Err e)) }
+    ensures told { HasAnswer result → IsInForm (ProductsOf by.now) range resolved.plain (answer_of result) }
+    ensures why { IfErr result (λ e. (e ≡ WantOfMemory) ⊎ IsRefusedIn (ProductsOf by.now) range resolved.plain (Err e)) }
 {
+    canonical_table_exists();
+    canonical_table_is_minimal_resolution();
+    modules_are_graded_modules();
+    accepted_is_module();
+    if let Err(refusal) = look_for(by, range) {
+        return Err(Failure::Classes(refusal));
+    }
     let images = images_alone(alloc, resolved, range)?;
     let text = products_over(alloc, &images, range, by);
     forget(images);
     text
 }
 
-/// The lines of the products with a class of the sphere, from images that so many workers make.
+/// The lines of the products with classes of the sphere, from images that so many workers make.
 pub(crate) fn products_by<W: Threads + Wait + Clock + Sync, G: Gate + Sync>(
     wait: &W,
     alloc: Global,
     workers: usize,
     resolved: Module,
     range: Range,
-    by: Class,
+    by: &[Class],
     gate: &G,
 ) -> Result<Vec<u8>, Failure>
     requires some { 0 < workers }
     requires rows { range.s ≤ MAX_S }
     requires degrees { range.t ≤ MAX_T }
-    ensures told { HasAnswer result → IsInForm (ProductsOf by) range resolved.plain (answer_of result) }
-    ensures why { IfErr result (λ e. (e ≡ WantOfMemory) ⊎ IsRefusedIn (ProductsOf by) range resolved.plain (Err e)) }
+    ensures told { HasAnswer result → IsInForm (ProductsOf by.now) range resolved.plain (answer_of result) }
+    ensures why { IfErr result (λ e. (e ≡ WantOfMemory) ⊎ IsRefusedIn (ProductsOf by.now) range resolved.plain (Err e)) }
 {
+    canonical_table_exists();
+    canonical_table_is_minimal_resolution();
+    modules_are_graded_modules();
+    accepted_is_module();
+    if let Err(refusal) = look_for(by, range) {
+        return Err(Failure::Classes(refusal));
+    }
     let images = images_by(wait, alloc, workers, resolved, range, gate)?;
     let text = products_over(alloc, &images, range, by);
     forget(images);
     text
 }
 
-/// The lines of the products with a class of the sphere, over these images.
+/// The lines of the products with classes of the sphere, over these images.
 fn products_over(
     alloc: Global,
     images: &Images,
     range: Range,
-    by: Class,
+    by: &[Class],
 ) -> Result<Vec<u8>, Failure>
     requires whole { AreWhole images.now }
     requires range { images.now.range ≡ range }
-    ensures told { HasAnswer result → IsInForm (ProductsOf by) range images.now.resolved.plain (answer_of result) }
+    requires there { list_all (λ class. class.s == 1) by.now ≡ true → All (IsH range) by.now }
+    ensures told { HasAnswer result → IsInForm (ProductsOf by.now) range images.now.resolved.plain (answer_of result) }
     ensures why { IfErr result
-        (λ e. (e ≡ WantOfMemory) ⊎ IsRefusedIn (ProductsOf by) range images.now.resolved.plain (Err e)) }
+        (λ e. (e ≡ WantOfMemory) ⊎ IsRefusedIn (ProductsOf by.now) range images.now.resolved.plain (Err e)) }
 {
     canonical_table_exists();
     canonical_table_is_minimal_resolution();
     modules_are_graded_modules();
     accepted_is_module();
+    if are_in_row_one(by) {
+        return Ok(h_products_over(alloc, images, range, by)?);
+    }
     let source = Source {
         held: Held::Images(images),
     };

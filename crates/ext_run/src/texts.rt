@@ -23,7 +23,6 @@ use crate::from_images::{sheet_alone, sheet_by, sheet_live};
 use crate::migrating::migrated;
 use crate::plan::{Form, Sheet};
 use crate::products_over_images::{products_alone, products_by};
-use crate::row_one::row_one_alone;
 use crate::sheets::sheet_text;
 use crate::task::{Resolution, Task};
 use crate::verifying::verified;
@@ -125,14 +124,16 @@ fn unsaved_alone(alloc: Global, resolution: Resolution) -> Result<Vec<u8>, Failu
     ensures why { IfErr result (λ e. (e ≡ WantOfMemory)
         ⊎ IsRefusedIn resolution.form resolution.common.range resolution.resolved.plain (Err e)) }
 {
-    let range = resolution.common.range;
-    match resolution.form {
-        Form::Squares(sheet, shape) => {
-            Ok(sheet_alone(alloc, resolution.resolved, sheet, range, shape)?)
-        }
-        Form::Products(by) if by.s == 1 => row_one_alone(alloc, resolution.resolved, range, by),
-        Form::Products(by) => products_alone(alloc, resolution.resolved, range, by),
-        Form::Bracket { a, b, c } => bracket_alone(alloc, resolution.resolved, range, a, b, c),
+    let Resolution {
+        resolved,
+        form,
+        common,
+    } = resolution;
+    let range = common.range;
+    match form {
+        Form::Squares(sheet, shape) => Ok(sheet_alone(alloc, resolved, sheet, range, shape)?),
+        Form::Products(by) => products_alone(alloc, resolved, range, by.as_slice()),
+        Form::Bracket { a, b, c } => bracket_alone(alloc, resolved, range, a, b, c),
     }
 }
 
@@ -172,7 +173,7 @@ fn unsaved_by_workers<W: Threads + Wait + Clock + Sync, E: Sink + Send, G: Gate 
         }
         (Form::Products(by), false) => {
             let workers = common.workers as usize;
-            let text = products_by(wait, alloc, workers, resolved, range, by, gate);
+            let text = products_by(wait, alloc, workers, resolved, range, by.as_slice(), gate);
             (text, Ok(()))
         }
         (Form::Bracket { a, b, c }, false) => {
@@ -259,11 +260,15 @@ fn saved_alone<D: Disk>(
     ensures { HasUsed (store_of D.now D.moment D.images D.images_at D.since D.faults) (keeping resolution.common.range)
         resolution.resolved.plain (ToResolve resolution) result.0 disk result.1 }
 {
-    let range = resolution.common.range;
-    match resume(alloc, resolution.resolved, disk) {
+    let Resolution {
+        resolved,
+        form,
+        common,
+    } = resolution;
+    match resume(alloc, resolved, disk) {
         Ok((table, file)) => {
             let keeper = RunFile::over(&table, file);
-            let (text, keeper) = told_alone(alloc, table, range, resolution.form, keeper);
+            let (text, keeper) = told_alone(alloc, table, common.range, form, keeper);
             (text, keeper.into_disk())
         }
         Err((fault, disk)) => (Err(Failure::from(fault)), disk),
@@ -443,7 +448,7 @@ fn told(alloc: Global, form: Form, table: &Table, range: Range) -> Result<Vec<u8
             let source = Source {
                 held: Held::Squares(table),
             };
-            Ok(products_text(alloc, &source, range, by)?)
+            Ok(products_text(alloc, &source, range, by.as_slice())?)
         }
         Form::Bracket { a, b, c } => {
             let source = Source {

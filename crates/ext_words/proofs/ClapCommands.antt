@@ -10,11 +10,11 @@ use Rattle.std.proofs.lemmas.Slice.Eq.{bytes_eq-Decides}
 use Rattle.clap.specs.Walk.{Row, Rule, Text, arg_by_id, arg_by_long, has_long, is_empty}
 use Rattle.clap.specs.Takes.{is_given}
 use Rattle.clap.proofs.SimpleLemmas.{is_false}
-use Rattle.ext_words.specs.Words.{Grammar, Part, is_in, fits, plain_words, parts_of, arguments_of, each_once, given_to}
+use Rattle.ext_words.specs.Words.{Grammar, Part, is_in, fits, plain_words, parts_of, given_from, each_once, given_to}
 use Rattle.ext_words.specs.Inside.CommandLine.{has_stray, given_by}
-use Rattle.ext_words.proofs.ClapWords.{Arguments, Named, is_option, is_unknown, option_rule}
+use Rattle.ext_words.proofs.ClapWords.{Arguments, Named, Kind, flag, single, several, is_option, is_unknown, option_rule}
 use Rattle.ext_words.proofs.ClapParts.{word_rule, Stand, IsCommand, uses, after_parts}
-use Rattle.ext_words.proofs.ClapUses.{AreApart, are_apart, after-first, known-parts, same-given}
+use Rattle.ext_words.proofs.ClapUses.{AreApart, are_apart, rows_with, after-first, known-parts, same-given}
 
 -- ---- the arguments of a command
 
@@ -23,8 +23,15 @@ abbrev words_from : ℕ → List Text → List Rule
 words_from position [] = []
 words_from position (id ∷ ids) = word_rule position id ∷ words_from (position + 1) ids
 
+-- an option that takes a value, by the names of those that may be given more than once
+abbrev kind_of : Bool → Kind
+kind_of again = if again then several else single
+
+abbrev valued_rule : List Text → Text → Rule
+valued_rule repeated name = option_rule (kind_of (is_in repeated name)) name
+
 abbrev pub rules_of : Grammar → List Rule
-rules_of g = words_from 1 g.words ++ (map (option_rule true) g.options.valued ++ map (option_rule false) g.options.flags)
+rules_of g = words_from 1 g.words ++ (map (valued_rule g.options.repeated) g.options.valued ++ map (option_rule flag) g.options.flags)
 
 abbrev pub arguments : Grammar → Arguments
 arguments g = record { rules = rules_of g; words = g.words; options = g.options }
@@ -33,12 +40,14 @@ arguments g = record { rules = rules_of g; words = g.words; options = g.options 
 abbrev are_others : List Text → List Text → Bool
 are_others names others = list_all (λ n. not (is_in others n)) names
 
--- no name stands twice, the words stand in their order, and no argument has a default value or is required
+-- no name stands twice, no flag may be given more than once, the words stand in their order, and no argument has a default value or is
+-- required
 pub record IsSound (g : Grammar) : Type 0 where
   pub words : are_apart g.words ≡ true
   pub valued : are_others g.options.valued g.words ≡ true
   pub flags : are_others g.options.flags g.words ≡ true
-  pub stands : Stand (rules_of g) 1 g.words
+  pub flags_once : are_others g.options.flags g.options.repeated ≡ true
+  pub stands : Stand (arguments g) 1 g.words
   pub no_defaults : list_all (λ a. is_empty a.defaults) (rules_of g) ≡ true
   pub none_lacking : (rows : List Row) → list_any (λ a. a.required && not (is_given a.id rows)) (rules_of g) ≡ false
 
@@ -85,59 +94,64 @@ or-false false = refl
 module _ (g : Grammar) (name : Text) where
   -- an option or a flag of this name
   abbrev of_name : Option Rule
-  of_name = option_or (if is_in g.options.valued name then Some (option_rule true name) else None) (if is_in g.options.flags name then Some (option_rule false name) else None)
+  of_name = option_or (if is_in g.options.valued name then Some (valued_rule g.options.repeated name) else None) (if is_in g.options.flags name then Some (option_rule flag name) else None)
 
-  named-is : (test : Rule → Bool) → find test (words_from 1 g.words) ≡ None → ((valued : Bool) (n : Text) → test (option_rule valued n) ≡ bytes_eq n name) → find test (rules_of g) ≡ of_name
+  named-is : (test : Rule → Bool) → find test (words_from 1 g.words) ≡ None → ((kind : Kind) (n : Text) → test (option_rule kind n) ≡ bytes_eq n name) → find test (rules_of g) ≡ of_name
   named-is test none same =
-      find-append test (words_from 1 g.words) (map (option_rule true) g.options.valued ++ map (option_rule false) g.options.flags)
-      ∙ ap₂ option_or none (find-append test (map (option_rule true) g.options.valued) (map (option_rule false) g.options.flags)
-      ∙ ap₂ option_or (found-by (option_rule true) test name (same true) g.options.valued) (found-by (option_rule false) test name (same false) g.options.flags))
+      find-append test (words_from 1 g.words) (map (valued_rule g.options.repeated) g.options.valued ++ map (option_rule flag) g.options.flags)
+      ∙ ap₂ option_or none (find-append test (map (valued_rule g.options.repeated) g.options.valued) (map (option_rule flag) g.options.flags)
+      ∙ ap₂ option_or (found-by (valued_rule g.options.repeated) test name (λ n. same (kind_of (is_in g.options.repeated n)) n) g.options.valued) (found-by (option_rule flag) test name (same flag) g.options.flags))
 
   long-is : arg_by_long (rules_of g) name ≡ of_name
   long-is = named-is (λ a. not (is_some a.index) && has_long a name) (no-word-long 1 g.words name) same
     where
-      same : (valued : Bool) (n : Text) → (not (is_some (option_rule valued n).index) && has_long (option_rule valued n) name) ≡ bytes_eq n name
-      same true n = or-false (bytes_eq n name)
-      same false n = or-false (bytes_eq n name)
+      same : (kind : Kind) (n : Text) → (not (is_some (option_rule kind n).index) && has_long (option_rule kind n) name) ≡ bytes_eq n name
+      same flag n = or-false (bytes_eq n name)
+      same single n = or-false (bytes_eq n name)
+      same several n = or-false (bytes_eq n name)
 
   id-is : is_in g.words name ≡ false → arg_by_id (rules_of g) name ≡ of_name
   id-is none = named-is (λ a. bytes_eq a.id name) (no-word-named 1 g.words name none) same
     where
-      same : (valued : Bool) (n : Text) → bytes_eq (option_rule valued n).id name ≡ bytes_eq n name
-      same true n = refl
-      same false n = refl
+      same : (kind : Kind) (n : Text) → bytes_eq (option_rule kind n).id name ≡ bytes_eq n name
+      same flag n = refl
+      same single n = refl
+      same several n = refl
 
 -- ---- a sound command
 
 module _ (g : Grammar) (sound : IsSound g) where
   named : (name : Text) → Named (arguments g) name
-  named name = by (is_in g.options.valued name) (is_in g.options.flags name) refl refl
+  named name = by (is_in g.options.valued name) (is_in g.options.flags name) (is_in g.options.repeated name) refl refl refl
     where
-      by : (valued flags : Bool) → is_in g.options.valued name ≡ valued → is_in g.options.flags name ≡ flags → Named (arguments g) name
-      by true flags v f =
+      by : (valued flags again : Bool) → is_in g.options.valued name ≡ valued → is_in g.options.flags name ≡ flags → is_in g.options.repeated name ≡ again → Named (arguments g) name
+      by true flags false v f a =
           let no_word = not-among g.options.valued g.words name sound.valued v in
-          is_option true (record { by_long = long-is g name ∙ rw v refl; by_id = id-is g name no_word ∙ rw v refl; takes = v; listed = refl; no_word = no_word })
-      by false true v f =
+          is_option single (record { by_long = long-is g name ∙ rw (v, a) refl; by_id = id-is g name no_word ∙ rw (v, a) refl; takes = v; again = a; listed = refl; no_word = no_word })
+      by true flags true v f a =
+          let no_word = not-among g.options.valued g.words name sound.valued v in
+          is_option several (record { by_long = long-is g name ∙ rw (v, a) refl; by_id = id-is g name no_word ∙ rw (v, a) refl; takes = v; again = a; listed = refl; no_word = no_word })
+      by false true again v f a =
           let no_word = not-among g.options.flags g.words name sound.flags f in
-          is_option false (record { by_long = long-is g name ∙ rw (v, f) refl; by_id = id-is g name no_word ∙ rw (v, f) refl; takes = v; listed = f; no_word = no_word })
-      by false false v f = is_unknown (long-is g name ∙ rw (v, f) refl) v f
+          is_option flag (record { by_long = long-is g name ∙ rw (v, f) refl; by_id = id-is g name no_word ∙ rw (v, f) refl; takes = v; again = not-among g.options.flags g.options.repeated name sound.flags_once f; listed = f; no_word = no_word })
+      by false false again v f a = is_unknown (long-is g name ∙ rw (v, f) refl) v f
 
   pub is_command : IsCommand (arguments g)
   is_command = record { named = named; no_defaults = sound.no_defaults; none_lacking = sound.none_lacking }
 
   -- ---- what its matches give
 
-  by-rows : (parts : List Part) (kept : Bool) → option_map given_by (if kept then Some (uses parts g.words) else None) ≡ (if kept then Some (arguments_of parts g.words) else None)
+  by-rows : (parts : List Part) (kept : Bool) → option_map given_by (if kept then Some (rows_with [] (uses parts g.words)) else None) ≡ (if kept then Some (given_from parts g.words) else None)
   by-rows parts true = ap Some (same-given parts g.words)
   by-rows parts false = refl
 
   by-parts : (taken : Option (List Part)) → IfSome taken (AreApart g.words) →
-      option_map given_by (option_and_then (after_parts g.words []) taken)
-      ≡ option_and_then (λ parts. if each_once parts && fits (plain_words parts) g.words then Some (arguments_of parts g.words) else None) taken
+      option_map given_by (option_and_then (after_parts g.options.repeated g.words []) taken)
+      ≡ option_and_then (λ parts. if each_once g.options.repeated parts && fits (plain_words parts) g.words then Some (given_from parts g.words) else None) taken
   by-parts None known = refl
   by-parts (Some parts) known =
-      ap (option_map given_by) (after-first parts g.words sound.words known) ∙ by-rows parts (each_once parts && fits (plain_words parts) g.words)
+      ap (option_map given_by) (after-first g.options.repeated parts g.words sound.words known) ∙ by-rows parts (each_once g.options.repeated parts && fits (plain_words parts) g.words)
 
   -- the rows that `clap` has after the words give what the grammar finds in them
-  pub gives-same : (words : List Text) → has_stray words ≡ false → option_map given_by (option_and_then (after_parts g.words []) (parts_of g.options words)) ≡ given_to g words
+  pub gives-same : (words : List Text) → has_stray words ≡ false → option_map given_by (option_and_then (after_parts g.options.repeated g.words []) (parts_of g.options words)) ≡ given_to g words
   gives-same words kept = by-parts (parts_of g.options words) (known-parts (arguments g) is_command words kept)

@@ -1,9 +1,9 @@
 -- The arguments of a command, and its parts as they are used one after another.
-use Rattle.std.proofs.Common.{◌≡◌, ℕ, refl, List, [], ◌∷◌, ◌++◌, Bool, true, false, Option, Some, None, arith, ap, ◌∙◌, append-nil}
+use Rattle.std.proofs.Common.{◌≡◌, ℕ, refl, List, [], ◌∷◌, ◌++◌, Bool, true, false, Option, Some, None, arith, ap, sym, ◌∙◌, append-nil}
 use Rattle.std.specs.Prelude.{length, not, ◌&&◌, option_to_list, is_some, if◌then◌else◌}
 use Rattle.std.specs.List.{fold, list_all, list_any}
 use Rattle.std.specs.Str.{bytes_eq}
-use Rattle.std.proofs.lemmas.Bool.{and_parts, eqb-true, or_parts, or_right}
+use Rattle.std.proofs.lemmas.Bool.{and_parts, eqb-true, or_parts, or_right, true≢false}
 use Rattle.clap.specs.Walk.{Row, Rule, Text, arg_by_id, arg_by_index, at_row, used, has_row, is_empty, more_values, next_position, with_default, with_values, without, reading_by}
 use Rattle.clap.specs.Simple.{Shape, filled, new_shape, with_index}
 use Rattle.clap.specs.Kinds.{or_else}
@@ -11,9 +11,9 @@ use Rattle.clap.specs.Takes.{is_given}
 use Rattle.clap.specs.Faults.{given_default_fault, use_fault, defaults_fault}
 use Rattle.clap.specs.declared.error.kind.ErrorKind.TheVariants.{ArgumentConflict}
 use Rattle.clap.specs.declared.parser.matches.ValueSource.TheVariants.{CommandLine}
-use Rattle.ext_words.specs.Words.{Part, plain, option, fits, plain_words}
+use Rattle.ext_words.specs.Words.{Part, plain, option, is_in, fits, plain_words}
 use Rattle.ext_words.specs.Inside.CommandLine.{word_named}
-use Rattle.ext_words.proofs.ClapWords.{Fails, Arguments, Named, option_rule}
+use Rattle.ext_words.proofs.ClapWords.{Fails, Arguments, Named, Kind, flag, single, several, takes_value, repeats, option_rule}
 
 -- ---- the commands, as they are built
 
@@ -29,11 +29,11 @@ leaf name rules = settings (record (new_shape name) { rules = rules })
 abbrev pub word_rule : ℕ → Text → Rule
 word_rule position id = with_index position (filled (word_named id))
 
--- the words stand from a position on, and none behind them
-abbrev pub Stand : List Rule → ℕ → List Text → Type 0
-Stand rules position [] = arg_by_index rules position ≡ None
-Stand rules position (id ∷ ids) = (arg_by_index rules position ≡ Some (word_rule position id)) × (arg_by_id rules id ≡ Some (word_rule position id))
-    × Stand rules (next_position (word_rule position id) position) ids
+-- the words stand from a position on, and none behind them; none has the name of an option that may be given more than once
+abbrev pub Stand : Arguments → ℕ → List Text → Type 0
+Stand c position [] = arg_by_index c.rules position ≡ None
+Stand c position (id ∷ ids) = (arg_by_index c.rules position ≡ Some (word_rule position id)) × (arg_by_id c.rules id ≡ Some (word_rule position id))
+    × (is_in c.options.repeated id ≡ false) × Stand c (next_position (word_rule position id) position) ids
 
 -- the command has these arguments and no others; none of them has a default value, and none is required
 pub record IsCommand (c : Arguments) : Type 0 where
@@ -65,7 +65,15 @@ no-defaults (a ∷ rules) rows e =
 
 -- what is found for an argument that is used once, with these values
 abbrev pub use_row : Text → List Text → Row
-use_row id values = record { id = id; values = values; count = None; source = Some CommandLine; reading = reading_by (option_rule true []) }
+use_row id values = record { id = id; values = values; count = None; source = Some CommandLine; reading = reading_by (option_rule single []) }
+
+-- the rows with the values of one more use; the row of its name gets them, if there is one
+abbrev pub added : Row → List Row → List Row
+added u rows = at_row u.id (more_values CommandLine u.values) (u ∷ []) rows
+
+-- whether an argument that has a row may not be used
+abbrev pub spent : Bool → Bool → Bool
+spent again has = not again && has
 
 at-end : (id : Text) (change : Row → List Row) (missing rows : List Row) → has_row id rows ≡ false → at_row id change missing rows ≡ rows ++ missing
 at-end id change missing [] none = refl
@@ -73,35 +81,38 @@ at-end id change missing (r ∷ rows) none =
     let parts = or_parts (bytes_eq r.id id) (has_row id rows) none in
     rw (parts.0) (ap (λ (rest : List Row). r ∷ rest) (at-end id change missing rows parts.1))
 
-one-more : (id : Text) (values : List Text) (rows : List Row) → has_row id rows ≡ false → with_values id (reading_by (option_rule true [])) CommandLine values (without id rows) ≡ rows ++ use_row id values ∷ []
+one-more : (id : Text) (values : List Text) (rows : List Row) → has_row id rows ≡ false → with_values id (reading_by (option_rule single [])) CommandLine values (without id rows) ≡ added (use_row id values) rows
 one-more id values rows none =
-    ap (λ (r : List Row). with_values id (reading_by (option_rule true [])) CommandLine values r) (at-end id (λ _. []) [] rows none ∙ append-nil rows)
-    ∙ at-end id (more_values CommandLine values) (use_row id values ∷ []) rows none
+    ap (λ (r : List Row). with_values id (reading_by (option_rule single [])) CommandLine values r) (at-end id (λ _. []) [] rows none ∙ append-nil rows)
 
--- an argument that may be used once, with these values
-pub record IsUse (id : Text) (a : Rule) (values : List Text) : Type 0 where
-  pub free : (rows : List Row) → has_row id rows ≡ false → use_fault false a values rows ≡ []
-  pub new : (rows : List Row) → has_row id rows ≡ false → used a values rows ≡ rows ++ use_row id values ∷ []
-  pub taken : (rows : List Row) → has_row id rows ≡ true → Fails (use_fault false a values rows)
+-- an argument that may be used, once or again and again, with these values
+pub record IsUse (again : Bool) (id : Text) (a : Rule) (values : List Text) : Type 0 where
+  pub free : (rows : List Row) → spent again (has_row id rows) ≡ false → use_fault false a values rows ≡ []
+  pub new : (rows : List Row) → spent again (has_row id rows) ≡ false → used a values rows ≡ added (use_row id values) rows
+  pub taken : (rows : List Row) → spent again (has_row id rows) ≡ true → Fails (use_fault false a values rows)
 
-pub word-use : (position : ℕ) (id word : Text) → IsUse id (word_rule position id) (word ∷ [])
+pub word-use : (position : ℕ) (id word : Text) → IsUse false id (word_rule position id) (word ∷ [])
 word-use position id word = record {
   free = λ rows e. rw e refl;
   new = λ rows e. one-more id (word ∷ []) rows e;
   taken = λ rows e. record { first = ArgumentConflict; others = []; is = rw e refl };
 }
 
-pub option-use : (name : Text) (value : Option Text) → IsUse name (option_rule (is_some value) name) (option_to_list value)
-option-use name (Some text) = record {
+pub option-use : (name : Text) (value : Option Text) (kind : Kind) → takes_value kind ≡ is_some value → IsUse (repeats kind) name (option_rule kind name) (option_to_list value)
+option-use name (Some text) single takes = record {
   free = λ rows e. rw e refl;
   new = λ rows e. one-more name (text ∷ []) rows e;
   taken = λ rows e. record { first = ArgumentConflict; others = []; is = rw e refl };
 }
-option-use name None = record {
+option-use name (Some text) several takes = record { free = λ rows e. refl; new = λ rows e. refl; taken = λ rows e. absurd (true≢false (sym e)) }
+option-use name (Some text) flag takes = absurd (true≢false (sym takes))
+option-use name None flag takes = record {
   free = λ rows e. rw e refl;
   new = λ rows e. one-more name [] rows e;
   taken = λ rows e. record { first = ArgumentConflict; others = []; is = rw e refl };
 }
+option-use name None single takes = absurd (true≢false takes)
+option-use name None several takes = absurd (true≢false takes)
 
 -- ---- the parts, used one after another
 
@@ -112,15 +123,19 @@ uses (plain word ∷ parts) [] = uses parts []
 uses (plain word ∷ parts) (id ∷ ids) = use_row id (word ∷ []) ∷ uses parts ids
 uses (option name value ∷ parts) ids = use_row name (option_to_list value) ∷ uses parts ids
 
--- the rows with one more, none where they have one of its name
-abbrev pub once : Row → List Row → Option (List Row)
-once r rows = if has_row r.id rows then None else Some (rows ++ r ∷ [])
+-- whether this use is one too many behind these rows, where the arguments of these names may be used more than once
+abbrev pub is_spent : List Text → Row → List Row → Bool
+is_spent repeated u rows = spent (is_in repeated u.id) (has_row u.id rows)
 
--- the rows with more of them, one after another
-abbrev pub appended : List Row → List Row → Option (List Row)
-appended rows [] = Some rows
-appended rows (r ∷ more) = if has_row r.id rows then None else appended (rows ++ r ∷ []) more
+-- the rows with one use more, none where it is one too many
+abbrev pub once : List Text → Row → List Row → Option (List Row)
+once repeated u rows = if is_spent repeated u rows then None else Some (added u rows)
+
+-- the rows with more uses, one after another
+abbrev pub appended : List Text → List Row → List Row → Option (List Row)
+appended repeated rows [] = Some rows
+appended repeated rows (u ∷ more) = if is_spent repeated u rows then None else appended repeated (added u rows) more
 
 -- the rows after the parts, none where one of them cannot be used
-abbrev pub after_parts : List Text → List Row → List Part → Option (List Row)
-after_parts ids rows parts = if fits (plain_words parts) ids then appended rows (uses parts ids) else None
+abbrev pub after_parts : List Text → List Text → List Row → List Part → Option (List Row)
+after_parts repeated ids rows parts = if fits (plain_words parts) ids then appended repeated rows (uses parts ids) else None

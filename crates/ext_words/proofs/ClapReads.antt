@@ -40,14 +40,14 @@ start = stand idle nothing_held 1
 -- ---- words where there are no arguments
 
 abbrev no_arguments : Arguments
-no_arguments = record { rules = []; words = []; options = record { valued = []; flags = [] } }
+no_arguments = record { rules = []; words = []; options = record { valued = []; repeated = []; flags = [] } }
 
 flag-or-word : (word : Text) → is_stray word ≡ false → Fails (flag_word_fault [] false (long_of word) word nothing_held) ⊎ Passes [] word
 flag-or-word word kept = elim (meets no_arguments (λ name. is_unknown refl refl refl) word kept) [
   | meets_plain passes given ↦ inr passes
   | meets_none refused given ↦ inl (refused nothing_held)
-  | meets_alone name is starts given ↦ absurd (let bad = is.by_long in cc)
-  | meets_used name value is used given ↦ absurd (let bad = is.by_long in cc)
+  | meets_alone name kind takes is starts given ↦ absurd (let bad = is.by_long in cc)
+  | meets_used name value kind takes is used given ↦ absurd (let bad = is.by_long in cc)
 ]
 
 top-fails : (names : Names) (word : Text) → subcommand_met names idle word ≡ None → is_stray word ≡ false → Fails (turn_fault top names start word)
@@ -146,17 +146,17 @@ module _ (list : List Grammar) (g : Grammar) (own : find (λ h. bytes_eq h.name 
 
 are_sound : AreSound commands
 are_sound =
-    let verify : AreSound (drop 10 commands) = (record { words = refl; valued = refl; flags = refl; stands = (refl, refl, (refl, refl, refl)); no_defaults = refl; none_lacking = λ rows. refl }, tt) in
-    let migrate : AreSound (drop 9 commands) = (record { words = refl; valued = refl; flags = refl; stands = refl; no_defaults = refl; none_lacking = λ rows. refl }, verify) in
-    let sq : AreSound (drop 8 commands) = (record { words = refl; valued = refl; flags = refl; stands = (refl, refl, refl); no_defaults = refl; none_lacking = λ rows. refl }, migrate) in
-    let sample : AreSound (drop 7 commands) = (record { words = refl; valued = refl; flags = refl; stands = (refl, refl, (refl, refl, (refl, refl, refl))); no_defaults = refl; none_lacking = λ rows. refl }, sq) in
-    let build : AreSound (drop 6 commands) = (record { words = refl; valued = refl; flags = refl; stands = (refl, refl, refl); no_defaults = refl; none_lacking = λ rows. refl }, sample) in
-    let check : AreSound (drop 5 commands) = (record { words = refl; valued = refl; flags = refl; stands = refl; no_defaults = refl; none_lacking = λ rows. refl }, build) in
-    let massey : AreSound (drop 4 commands) = (record { words = refl; valued = refl; flags = refl; stands = (refl, refl, (refl, refl, refl)); no_defaults = refl; none_lacking = λ rows. refl }, check) in
-    let products : AreSound (drop 3 commands) = (record { words = refl; valued = refl; flags = refl; stands = (refl, refl, (refl, refl, refl)); no_defaults = refl; none_lacking = λ rows. refl }, massey) in
-    let dump : AreSound (drop 2 commands) = (record { words = refl; valued = refl; flags = refl; stands = (refl, refl, (refl, refl, refl)); no_defaults = refl; none_lacking = λ rows. refl }, products) in
-    let resolve : AreSound (drop 1 commands) = (record { words = refl; valued = refl; flags = refl; stands = (refl, refl, (refl, refl, refl)); no_defaults = refl; none_lacking = λ rows. refl }, dump) in
-    (record { words = refl; valued = refl; flags = refl; stands = (refl, refl, (refl, refl, refl)); no_defaults = refl; none_lacking = λ rows. refl }, resolve)
+    let verify : AreSound (drop 10 commands) = (record { words = refl; valued = refl; flags = refl; flags_once = refl; stands = (refl, refl, refl, (refl, refl, refl, refl)); no_defaults = refl; none_lacking = λ rows. refl }, tt) in
+    let migrate : AreSound (drop 9 commands) = (record { words = refl; valued = refl; flags = refl; flags_once = refl; stands = refl; no_defaults = refl; none_lacking = λ rows. refl }, verify) in
+    let sq : AreSound (drop 8 commands) = (record { words = refl; valued = refl; flags = refl; flags_once = refl; stands = (refl, refl, refl, refl); no_defaults = refl; none_lacking = λ rows. refl }, migrate) in
+    let sample : AreSound (drop 7 commands) = (record { words = refl; valued = refl; flags = refl; flags_once = refl; stands = (refl, refl, refl, (refl, refl, refl, (refl, refl, refl, refl))); no_defaults = refl; none_lacking = λ rows. refl }, sq) in
+    let build : AreSound (drop 6 commands) = (record { words = refl; valued = refl; flags = refl; flags_once = refl; stands = (refl, refl, refl, refl); no_defaults = refl; none_lacking = λ rows. refl }, sample) in
+    let check : AreSound (drop 5 commands) = (record { words = refl; valued = refl; flags = refl; flags_once = refl; stands = refl; no_defaults = refl; none_lacking = λ rows. refl }, build) in
+    let massey : AreSound (drop 4 commands) = (record { words = refl; valued = refl; flags = refl; flags_once = refl; stands = (refl, refl, refl, (refl, refl, refl, refl)); no_defaults = refl; none_lacking = λ rows. refl }, check) in
+    let products : AreSound (drop 3 commands) = (record { words = refl; valued = refl; flags = refl; flags_once = refl; stands = (refl, refl, refl, (refl, refl, refl, refl)); no_defaults = refl; none_lacking = λ rows. refl }, massey) in
+    let dump : AreSound (drop 2 commands) = (record { words = refl; valued = refl; flags = refl; flags_once = refl; stands = (refl, refl, refl, (refl, refl, refl, refl)); no_defaults = refl; none_lacking = λ rows. refl }, products) in
+    let resolve : AreSound (drop 1 commands) = (record { words = refl; valued = refl; flags = refl; flags_once = refl; stands = (refl, refl, refl, (refl, refl, refl, refl)); no_defaults = refl; none_lacking = λ rows. refl }, dump) in
+    (record { words = refl; valued = refl; flags = refl; flags_once = refl; stands = (refl, refl, refl, (refl, refl, refl, refl)); no_defaults = refl; none_lacking = λ rows. refl }, resolve)
 
 is_ready : built command_line ≡ ready commands
 is_ready = refl
@@ -195,7 +195,7 @@ module _ (g : Grammar) (own : grammar_of g.name ≡ Some g) where
 
   reads-own : IsSound g → (words : List Text) → has_stray words ≡ false → Reads (g.name ∷ words)
   reads-own sound words kept =
-      reads-ended words (option_and_then (after_parts g.words []) (parts_of g.options words)) ((follows g.name (arguments g) (is_command g sound) words kept).goes nothing_held g.words 1 sound.stands refl) (gives-same g sound words kept)
+      reads-ended words (option_and_then (after_parts g.options.repeated g.words []) (parts_of g.options words)) ((follows g.name (arguments g) (is_command g sound) words kept).goes nothing_held g.words 1 sound.stands refl) (gives-same g sound words kept)
 
 -- ---- the words, by the first of them
 

@@ -35,22 +35,40 @@ pub record Arguments : Type 0 where
   pub words : List Text
   pub options : Options
 
--- the rule of an option as it is built, where it takes a value or is a flag
-abbrev pub option_rule : Bool → Text → Rule
-option_rule true name = with_index 1 (filled (option_named name))
-option_rule false name = with_index 1 (filled (flag_named name))
+-- a flag, an option that takes a value once, and one that takes a value each time
+pub data Kind : Type 0 where
+  flag : Kind
+  single : Kind
+  several : Kind
 
--- the command has an option of this name, which takes a value or is a flag
-pub record IsOption (c : Arguments) (valued : Bool) (name : Text) : Type 0 where
-  pub by_long : arg_by_long c.rules name ≡ Some (option_rule valued name)
-  pub by_id : arg_by_id c.rules name ≡ Some (option_rule valued name)
-  pub takes : is_in c.options.valued name ≡ valued
-  pub listed : (valued || is_in c.options.flags name) ≡ true
+abbrev pub takes_value : Kind → Bool
+takes_value flag = false
+takes_value single = true
+takes_value several = true
+
+abbrev pub repeats : Kind → Bool
+repeats flag = false
+repeats single = false
+repeats several = true
+
+-- the rule of an option as it is built
+abbrev pub option_rule : Kind → Text → Rule
+option_rule flag name = with_index 1 (filled (flag_named name))
+option_rule single name = with_index 1 (filled (option_named false name))
+option_rule several name = with_index 1 (filled (option_named true name))
+
+-- the command has an option of this kind and name
+pub record IsOption (c : Arguments) (kind : Kind) (name : Text) : Type 0 where
+  pub by_long : arg_by_long c.rules name ≡ Some (option_rule kind name)
+  pub by_id : arg_by_id c.rules name ≡ Some (option_rule kind name)
+  pub takes : is_in c.options.valued name ≡ takes_value kind
+  pub again : is_in c.options.repeated name ≡ repeats kind
+  pub listed : (takes_value kind || is_in c.options.flags name) ≡ true
   pub no_word : is_in c.words name ≡ false
 
 -- what the command has of this name
 pub data Named (c : Arguments) (name : Text) : Type 0 where
-  is_option : (valued : Bool) → IsOption c valued name → Named c name
+  is_option : (kind : Kind) → IsOption c kind name → Named c name
   is_unknown : arg_by_long c.rules name ≡ None → is_in c.options.valued name ≡ false → is_in c.options.flags name ≡ false → Named c name
 
 -- ---- what a word is
@@ -78,8 +96,8 @@ pub record Uses (c : List Rule) (a : Rule) (values : List Text) (word : Text) : 
 pub data Meets (c : Arguments) (word : Text) : Type 0 where
   meets_plain : Passes c.rules word → ((parts : List Part) → with_word c.options word parts ≡ Some (plain word ∷ parts)) → Meets c word
   meets_none : Refuses c.rules word → ((parts : List Part) → with_word c.options word parts ≡ None) → Meets c word
-  meets_alone : (name : Text) → IsOption c true name → Starts c.rules name word → ((parts : List Part) → with_word c.options word parts ≡ with_next name parts) → Meets c word
-  meets_used : (name : Text) (value : Option Text) → IsOption c (is_some value) name → Uses c.rules (option_rule (is_some value) name) (option_to_list value) word → ((parts : List Part) → with_word c.options word parts ≡ Some (option name value ∷ parts)) → Meets c word
+  meets_alone : (name : Text) (kind : Kind) → takes_value kind ≡ true → IsOption c kind name → Starts c.rules name word → ((parts : List Part) → with_word c.options word parts ≡ with_next name parts) → Meets c word
+  meets_used : (name : Text) (value : Option Text) (kind : Kind) → takes_value kind ≡ is_some value → IsOption c kind name → Uses c.rules (option_rule kind name) (option_to_list value) word → ((parts : List Part) → with_word c.options word parts ≡ Some (option name value ∷ parts)) → Meets c word
 
 pub apart : (x : ℕ) → (x == 45) ≡ false → (45 == x) ≡ false
 apart x e = ne_eqb 45 x (λ same. eqb-false x 45 e (sym same))
@@ -91,14 +109,18 @@ module _ (c : Arguments) (z : ℕ) (zs : Text) where
   name = before_equals (z ∷ zs)
 
   by-name : (valued : Bool) → has_equals (z ∷ zs) ≡ valued → Named c name → Meets c (45 ∷ 45 ∷ z ∷ zs)
-  by-name true e (is_option true is) =
-      meets_used name (Some (after_equals (z ∷ zs))) is (record { fault = λ h. rw (e, is.by_long) refl; met = λ h. rw (e, is.by_long) refl }) (λ parts. rw (e, is.takes) refl)
-  by-name false e (is_option true is) =
-      meets_alone name is (record { fault = λ h. rw (e, is.by_long) refl; met = λ h. rw (e, is.by_long) refl }) (λ parts. rw (e, is.takes) refl)
-  by-name true e (is_option false is) =
+  by-name true e (is_option single is) =
+      meets_used name (Some (after_equals (z ∷ zs))) single refl is (record { fault = λ h. rw (e, is.by_long) refl; met = λ h. rw (e, is.by_long) refl }) (λ parts. rw (e, is.takes) refl)
+  by-name false e (is_option single is) =
+      meets_alone name single refl is (record { fault = λ h. rw (e, is.by_long) refl; met = λ h. rw (e, is.by_long) refl }) (λ parts. rw (e, is.takes) refl)
+  by-name true e (is_option several is) =
+      meets_used name (Some (after_equals (z ∷ zs))) several refl is (record { fault = λ h. rw (e, is.by_long) refl; met = λ h. rw (e, is.by_long) refl }) (λ parts. rw (e, is.takes) refl)
+  by-name false e (is_option several is) =
+      meets_alone name several refl is (record { fault = λ h. rw (e, is.by_long) refl; met = λ h. rw (e, is.by_long) refl }) (λ parts. rw (e, is.takes) refl)
+  by-name true e (is_option flag is) =
       meets_none (λ h. record { first = TooManyValues; others = []; is = rw (e, is.by_long) refl }) (λ parts. rw (e, is.takes) refl)
-  by-name false e (is_option false is) =
-      meets_used name None is (record { fault = λ h. rw (e, is.by_long) refl; met = λ h. rw (e, is.by_long) refl }) (λ parts. rw (e, is.takes, is.listed) refl)
+  by-name false e (is_option flag is) =
+      meets_used name None flag refl is (record { fault = λ h. rw (e, is.by_long) refl; met = λ h. rw (e, is.by_long) refl }) (λ parts. rw (e, is.takes, is.listed) refl)
   by-name true e (is_unknown none unlisted unflagged) =
       meets_none (λ h. record { first = UnknownArgument; others = []; is = rw none refl }) (λ parts. rw (e, unlisted) refl)
   by-name false e (is_unknown none unlisted unflagged) =

@@ -4,7 +4,7 @@ use Rattle.std.specs.Prelude.{◌==◌, option_and_then}
 use Rattle.std.proofs.lemmas.Bool.{and_parts, or_cases, eqb-true, true≢false}
 use Rattle.clap.specs.Walk.{Text}
 use Rattle.clap.proofs.SimpleLemmas.{is_false}
-use Rattle.ext_words.specs.Words.{Part, Options, Argument, Grammar, with_word, parts_of, given_to, read_by, grammar_of, given_of, command_of}
+use Rattle.ext_words.specs.Words.{Part, Options, Given, Grammar, with_word, parts_of, given_to, read_by, grammar_of, given_of, command_of}
 use Rattle.ext_words.specs.Inside.CommandLine.{is_stray, has_stray}
 use Rattle.ext_words.proofs.ClapWords.{apart}
 
@@ -45,7 +45,7 @@ given-none : (g : Grammar) (words : List Text) → has_stray words ≡ true → 
 given-none g words stray = ap (option_and_then _) (strays-no-parts g.options words stray)
 
 -- what is made by the command that is found
-found-none : {X : Type 0} (make : Grammar → Option (List Argument) → Option X) → ((g : Grammar) → make g None ≡ None) → (found : Option Grammar) (words : List Text) → has_stray words ≡ true →
+found-none : {X : Type 0} (make : Grammar → Option (Given) → Option X) → ((g : Grammar) → make g None ≡ None) → (found : Option Grammar) (words : List Text) → has_stray words ≡ true →
     option_and_then (λ g. make g (given_to g words)) found ≡ None
 found-none make none None words stray = refl
 found-none make none (Some g) words stray = ap (make g) (given-none g words stray) ∙ none g

@@ -16,7 +16,7 @@ use Rattle.ext_words.specs.declared.command.Build.{Build}
 use Rattle.ext_words.specs.declared.command.Command.{Command}
 use Rattle.ext_words.specs.declared.command.Command.TheVariants.{Sphere, Resolve, Dump, Products, Massey, Build as Built, Sample, Sq, Verify}
 use Rattle.ext_words.specs.declared.command.Common.{Common}
-use Rattle.ext_words.specs.Words.{Part, plain, option, Options, Argument, Grammar, texts_of, has_live, is_in, is_among, begins_with, has_equals, before_equals, with_next, with_option, with_text, with_word, parts_of, plain_words, each_once, fits, arguments_of, is_given, text_given, class_given, workers_of, seed_of, shape_of, range_of, is_refused_stems, common_of, products_of, massey_of, build_of, sample_of, product_given, commands, given_to, read_by, grammar_of, command_of}
+use Rattle.ext_words.specs.Words.{Part, plain, option, Options, Given, Grammar, texts_of, has_live, is_in, is_among, begins_with, has_equals, before_equals, with_next, with_option, with_text, with_word, parts_of, plain_words, each_once, fits, given_from, is_given, text_given, class_given, classes_given, workers_of, seed_of, shape_of, range_of, is_refused_stems, common_of, products_of, massey_of, build_of, sample_of, product_given, commands, given_to, read_by, grammar_of, command_of}
 
 abbrev Text : Type 0
 Text = List ℕ
@@ -104,7 +104,7 @@ module _ (options : Options) (name : Text) (no_value : is_in options.valued name
       with_then Lacks Lacks (with_word options word) (word-lacks word parts.0) (parts_of options words) (words-lack words parts.1)
 
 -- nothing is given under the name
-none-given : (name : Text) (parts : List Part) (names : List Text) → is_among name parts ≡ false → is_in names name ≡ false → is_given name (arguments_of parts names) ≡ false
+none-given : (name : Text) (parts : List Part) (names : List Text) → is_among name parts ≡ false → is_in names name ≡ false → is_given name (given_from parts names) ≡ false
 none-given name [] names lacks other = refl
 none-given name (plain word ∷ parts) [] lacks other = none-given name parts [] lacks other
 none-given name (plain word ∷ parts) (n ∷ names) lacks other =
@@ -144,7 +144,7 @@ common-by false shape save told none None n = tt
 common-by false shape save told none (Some range) None = tt
 common-by false shape save told none (Some range) (Some n) = none
 
-products-by : (common : Option Common) → IfSome common IsSilent → (by : Option Class) → IfSome (option_and_then (λ common. option_map (λ by. Products common by) by) common) AsksNone
+products-by : (common : Option Common) → IfSome common IsSilent → (by : Option (List Class)) → IfSome (option_and_then (λ common. option_map (λ by. Products common by) by) common) AsksNone
 products-by None is by = tt
 products-by (Some common) is None = tt
 products-by (Some common) is (Some by) = is
@@ -173,7 +173,7 @@ verify-by : (range : Option Range) → IfSome (option_map Verify range) AsksNone
 verify-by None = tt
 verify-by (Some range) = tt
 
-module _ (given : List Argument) (none : is_given live given ≡ false) where
+module _ (given : Given) (none : is_given live given ≡ false) where
   common-silent : IfSome (common_of given) IsSilent
   common-silent =
       common-by (is_refused_stems given) (shape_of given) (is_given (codes "save") given) (is_given live given) none
@@ -189,7 +189,7 @@ module _ (given : List Argument) (none : is_given live given ≡ false) where
   dump-silent = with_map IsSilent AsksNone Dump (λ common is. is) (common_of given) common-silent
 
   products-silent : IfSome (products_of given) AsksNone
-  products-silent = products-by (common_of given) common-silent (class_given (codes "by") given)
+  products-silent = products-by (common_of given) common-silent (classes_given (codes "by") given)
 
   massey-silent : IfSome (massey_of given) AsksNone
   massey-silent = massey-by (common_of given) common-silent (class_given (codes "a") given) (class_given (codes "b") given) (class_given (codes "c") given)
@@ -210,7 +210,7 @@ module _ (given : List Argument) (none : is_given live given ≡ false) where
 record IsPlain (g : Grammar) : Type 0 where
   valued : is_in g.options.valued live ≡ false
   words : is_in g.words live ≡ false
-  makes : (given : List Argument) → is_given live given ≡ false → IfSome (g.make given) AsksNone
+  makes : (given : Given) → is_given live given ≡ false → IfSome (g.make given) AsksNone
 
 abbrev ArePlain : List Grammar → Type 0
 ArePlain [] = ⊤
@@ -239,21 +239,21 @@ found-plain test (g ∷ list) all = by (test g) (found-plain test list all.1)
     by false rest = rest
 
 module _ (g : Grammar) (is : IsPlain g) where
-  abbrev LacksLive : List Argument → Type 0
+  abbrev LacksLive : Given → Type 0
   LacksLive given = is_given live given ≡ false
 
-  abbrev given_from : List Part → Option (List Argument)
-  given_from parts = if each_once parts && fits (plain_words parts) g.words then Some (arguments_of parts g.words) else None
+  abbrev all_given : List Part → Option Given
+  all_given parts = if each_once g.options.repeated parts && fits (plain_words parts) g.words then Some (given_from parts g.words) else None
 
-  from-lacks : (parts : List Part) → is_among live parts ≡ false → IfSome (given_from parts) LacksLive
-  from-lacks parts lacks = by (each_once parts && fits (plain_words parts) g.words)
+  from-lacks : (parts : List Part) → is_among live parts ≡ false → IfSome (all_given parts) LacksLive
+  from-lacks parts lacks = by (each_once g.options.repeated parts && fits (plain_words parts) g.words)
     where
-      by : (b : Bool) → IfSome (if b then Some (arguments_of parts g.words) else None) LacksLive
+      by : (b : Bool) → IfSome (if b then Some (given_from parts g.words) else None) LacksLive
       by true = none-given live parts g.words lacks is.words
       by false = tt
 
   given-lacks : (words : List Text) → is_in words (codes "--live") ≡ false → IfSome (given_to g words) LacksLive
-  given-lacks words none = with_then (λ parts. is_among live parts ≡ false) LacksLive given_from from-lacks (parts_of g.options words) (words-lack g.options live is.valued words none)
+  given-lacks words none = with_then (λ parts. is_among live parts ≡ false) LacksLive all_given from-lacks (parts_of g.options words) (words-lack g.options live is.valued words none)
 
   read-silent : (words : List Text) → is_in words (codes "--live") ≡ false → IfSome (read_by g words) AsksNone
   read-silent words none = with_then LacksLive AsksNone g.make is.makes (given_to g words) (given-lacks words none)

@@ -10,7 +10,7 @@ use Rattle.bidegree.specs.declared.range.TheConstants.{MAX_S, MAX_T}
 use Rattle.ext_words.specs.declared.command.TheConstants.{MAX_WORKERS, MAX_SQUARES, MAX_SQUARES_DEGREE, MAX_SHIFT}
 use Rattle.ext_words.specs.declared.command.Command.{Command}
 use Rattle.ext_words.specs.declared.command.Command.TheVariants.{Products, Massey}
-use Rattle.ext_words.specs.Words.{Argument, is_in, text_given, number_up_to, positive_up_to, shift_of, seed_of, product_of, class_of, given_of, command_of}
+use Rattle.ext_words.specs.Words.{Given, is_in, number_up_to, positive_up_to, shift_of, seed_of, product_of, class_of, given_of, command_of}
 
 -- ---- words in a line
 
@@ -70,14 +70,15 @@ abbrev pub value_line : List ℕ → List ℕ → List ℕ
 value_line name text =
     codes "ext: " ++ (mark name ++ (name ++ (codes " is " ++ (shown text ++ (codes ", and has to be " ++ (wanted name ++ codes "\n"))))))
 
-abbrev pub wrong_value : List ℕ → Option (List ℕ) → Option (List ℕ)
-wrong_value name None = None
-wrong_value name (Some text) = if is_right name text then None else Some (value_line name text)
+-- the first of the texts that has to be something else
+abbrev pub wrong_value : List ℕ → List (List ℕ) → Option (List ℕ)
+wrong_value name [] = None
+wrong_value name (text ∷ texts) = if is_right name text then wrong_value name texts else Some (value_line name text)
 
 -- the first that has to be something else
-abbrev pub first_wrong : List (List ℕ) → List Argument → Option (List ℕ)
+abbrev pub first_wrong : List (List ℕ) → Given → Option (List ℕ)
 first_wrong [] given = None
-first_wrong (name ∷ names) given = option_or (wrong_value name (text_given name given)) (first_wrong names given)
+first_wrong (name ∷ names) given = option_or (wrong_value name (unwrap_or (given name) [])) (first_wrong names given)
 
 -- ---- the forms of commands
 
@@ -90,7 +91,7 @@ form_of name =
     Some (codes "resolve S T [--workers=W] [--save] [--live], or resolve S STEM --stems [--workers=W] with S + STEM at most 255")
     else if bytes_eq (codes "dump") name then
     Some (codes "dump S T [--workers=W] [--save], or dump S STEM --stems [--workers=W] with S + STEM at most 255")
-    else if bytes_eq (codes "products") name then Some (codes "products S T --by=s,t,i [--workers=W] [--save]")
+    else if bytes_eq (codes "products") name then Some (codes "products S T --by=s,t,i [--by=s,t,i ..] [--workers=W] [--save]")
     else if bytes_eq (codes "massey") name then Some (codes "massey S T --a=s,t,i --b=s,t,i --c=s,t,i [--workers=W] [--save]")
     else if bytes_eq (codes "check") name then Some (codes "check")
     else if bytes_eq (codes "build") name then Some (codes "build sum, build tensor, build dual or build shift --degrees=N")
@@ -117,11 +118,11 @@ unknown_line name = codes "ext: " ++ (shown name ++ (codes " is no command; the 
 -- ---- the line on words
 
 -- what is wrong with a command's words: they have not its form, or, where they are read as that, the first that has to be something else
-abbrev pub wrong_with : List ℕ → Option (List Argument) → List ℕ
+abbrev pub wrong_with : List ℕ → Option Given → List ℕ
 wrong_with form given = unwrap_or (option_and_then (first_wrong value_names) given) (form_line form)
 
 -- what is wrong with words of which the first is this one
-abbrev pub wrong_under : List ℕ → Option (List Argument) → List ℕ
+abbrev pub wrong_under : List ℕ → Option Given → List ℕ
 wrong_under name given = unwrap_or (option_map (λ form. wrong_with form given) (form_of name)) (unknown_line name)
 
 abbrev pub wrong_of : List (List ℕ) → List ℕ
@@ -156,6 +157,11 @@ sphere_line name range class = past_line (nat_lt range.s class.s || not (int_le 
 abbrev pub module_line : List ℕ → Range → Class → Option (List ℕ)
 module_line name range class = past_line (nat_lt range.s class.s) name range class
 
+-- the first of the classes of the sphere that lies past the range
+abbrev pub products_line : Range → List Class → Option (List ℕ)
+products_line range [] = None
+products_line range (by ∷ others) = option_or (sphere_line (codes "by") range by) (products_line range others)
+
 -- the first class of a bracket that lies past the range
 abbrev pub bracket_line : Range → Class → Class → Class → Option (List ℕ)
 bracket_line range a b c = option_or (sphere_line (codes "a") range a)
@@ -163,7 +169,7 @@ bracket_line range a b c = option_or (sphere_line (codes "a") range a)
 
 -- the first class of a command that lies past the range
 abbrev pub class_line : Command → Option (List ℕ)
-class_line (Products common by) = sphere_line (codes "by") common.range by
+class_line (Products common by) = products_line common.range by
 class_line (Massey common a b c) = bracket_line common.range a b c
 class_line _ = None
 

@@ -1,5 +1,5 @@
 -- The command that the words of a command line give, none where they are outside the grammar.
-use Rattle.std.specs.Prelude.{◌≡◌, ℕ, ◌≤◌, ◌+◌, ◌-◌, ◌*◌, ◌==◌, ℤ, pos, neg_ℤ, ◌≤ℤ◌, int_le, Bool, true, false, not, ◌&&◌, ◌||◌, nat_lt, nat_le, if◌then◌else◌, List, [], ◌∷◌, ◌++◌, length, take, drop, Option, Some, None, option_map, option_and_then, map, find, codes, ⊤}
+use Rattle.std.specs.Prelude.{◌≡◌, ℕ, ◌≤◌, ◌+◌, ◌-◌, ◌*◌, ◌==◌, ℤ, pos, neg_ℤ, ◌≤ℤ◌, int_le, Bool, true, false, not, ◌&&◌, ◌||◌, nat_lt, nat_le, if◌then◌else◌, List, [], ◌∷◌, ◌++◌, length, take, drop, Option, Some, None, option_map, option_and_then, option_to_list, is_some, unwrap_or, slice_get, map, find, codes, ⊤}
 use Rattle.std.specs.Borrow.{Bor}
 use Rattle.std.specs.List.{All, fold, list_all, list_any, before_first, after_first, slice_split, sum}
 use Rattle.std.specs.Str.{bytes_eq}
@@ -31,9 +31,10 @@ pub data Part : Type 0 where
   plain : List ℕ → Part
   option : List ℕ → Option (List ℕ) → Part
 
--- the options that a command has, and its flags, by their names
+-- the options that a command has, those among them that may be given more than once, and its flags, by their names
 pub record Options : Type 0 where
   pub valued : List (List ℕ)
+  pub repeated : List (List ℕ)
   pub flags : List (List ℕ)
 
 abbrev pub is_in : List (List ℕ) → List ℕ → Bool
@@ -94,11 +95,12 @@ is_among name [] = false
 is_among name (plain word ∷ parts) = is_among name parts
 is_among name (option other value ∷ parts) = bytes_eq other name || is_among name parts
 
--- no option is among them twice
-abbrev pub each_once : List Part → Bool
-each_once [] = true
-each_once (plain word ∷ parts) = each_once parts
-each_once (option name value ∷ parts) = not (is_among name parts) && each_once parts
+-- no option is among them twice, but for those that may be
+abbrev pub each_once : List (List ℕ) → List Part → Bool
+each_once repeated [] = true
+each_once repeated (plain word ∷ parts) = each_once repeated parts
+each_once repeated (option name value ∷ parts) =
+    not (not (is_in repeated name) && is_among name parts) && each_once repeated parts
 
 -- ---- numbers
 
@@ -142,11 +144,14 @@ shift_of word = option_and_then
 abbrev pub between_commas : List ℕ → List (List ℕ)
 between_commas word = slice_split (λ c. c == 44) word
 
+-- what is read of words, one after another; none where one of them is not read
+abbrev pub read_each : {X : Type 0} → (List ℕ → Option X) → List (List ℕ) → Option (List X)
+read_each read [] = Some []
+read_each read (word ∷ words) = option_and_then (λ x. option_map (λ xs. x ∷ xs) (read_each read words)) (read word)
+
 -- the numbers of words, each from 1 to the limit
 abbrev pub positive_numbers : ℕ → List (List ℕ) → Option (List ℕ)
-positive_numbers limit [] = Some []
-positive_numbers limit (word ∷ words) =
-    option_and_then (λ n. option_map (λ ns. n ∷ ns) (positive_numbers limit words)) (positive_up_to limit word)
+positive_numbers limit words = read_each (positive_up_to limit) words
 
 -- the numbers of a product of squares, where there are not too many, and their sum, which is its degree, is not too great
 abbrev pub within_degree : List ℕ → Option (List ℕ)
@@ -173,10 +178,10 @@ class_of word = class_from (between_commas word)
 
 -- ---- what is given to a command
 
--- what stands under a name, which is that of a word, of an option or of a flag: a text, and none under that of a flag
-pub record Argument : Type 0 where
-  pub name : List ℕ
-  pub text : Option (List ℕ)
+-- the texts that stand under a name, which is that of a word, of an option or of a flag, in their order: none of them under the name
+-- of a flag. Where nothing is given under the name there is no list.
+abbrev pub Given : Type 0
+Given = List ℕ → Option (List (List ℕ))
 
 -- there are no more words than names
 abbrev pub fits : List (List ℕ) → List (List ℕ) → Bool
@@ -184,29 +189,38 @@ fits [] names = true
 fits (word ∷ words) [] = false
 fits (word ∷ words) (name ∷ names) = fits words names
 
--- what the parts give, where the words that are no options have these names, in their order
-abbrev pub arguments_of : List Part → List (List ℕ) → List Argument
-arguments_of [] names = []
-arguments_of (plain word ∷ parts) [] = arguments_of parts []
-arguments_of (plain word ∷ parts) (name ∷ names) =
-    record { name = name; text = Some word } ∷ arguments_of parts names
-arguments_of (option name value ∷ parts) names = record { name = name; text = value } ∷ arguments_of parts names
+-- the texts with that of one part more, where it is given under their name
+abbrev pub with_part : Bool → Option (List ℕ) → Option (List (List ℕ)) → Option (List (List ℕ))
+with_part true text texts = Some (option_to_list text ++ unwrap_or texts [])
+with_part false text texts = texts
 
--- the text that is given under a name
-abbrev pub text_given : List ℕ → List Argument → Option (List ℕ)
-text_given name given = option_and_then (λ a. a.text) (find (λ a. bytes_eq a.name name) given)
+-- what the parts give, where the words that are no options have these names, in their order
+abbrev pub given_from : List Part → List (List ℕ) → Given
+given_from [] names name = None
+given_from (plain word ∷ parts) [] name = given_from parts [] name
+given_from (plain word ∷ parts) (other ∷ names) name =
+    with_part (bytes_eq other name) (Some word) (given_from parts names name)
+given_from (option other value ∷ parts) names name = with_part (bytes_eq other name) value (given_from parts names name)
+
+-- the first text that is given under a name
+abbrev pub text_given : List ℕ → Given → Option (List ℕ)
+text_given name given = option_and_then (λ texts. slice_get texts 0) (given name)
 
 -- whether something is given under a name
-abbrev pub is_given : List ℕ → List Argument → Bool
-is_given name given = list_any (λ a. bytes_eq a.name name) given
+abbrev pub is_given : List ℕ → Given → Bool
+is_given name given = is_some (given name)
 
 -- the number that is given, at most the limit
-abbrev pub number_given : List ℕ → ℕ → List Argument → Option ℕ
+abbrev pub number_given : List ℕ → ℕ → Given → Option ℕ
 number_given name limit given = option_and_then (number_up_to limit) (text_given name given)
 
 -- the class that is given
-abbrev pub class_given : List ℕ → List Argument → Option Class
+abbrev pub class_given : List ℕ → Given → Option Class
 class_given name given = option_and_then class_of (text_given name given)
+
+-- the classes that are given
+abbrev pub classes_given : List ℕ → Given → Option (List Class)
+classes_given name given = option_and_then (read_each class_of) (given name)
 
 -- how many workers there are by the value of `--workers`: one where it has none
 abbrev pub workers_of : Option (List ℕ) → Option ℕ
@@ -214,7 +228,7 @@ workers_of None = Some 1
 workers_of (Some value) = positive_up_to MAX_WORKERS value
 
 -- which squares of a range are meant: with `--stems` those of its stems
-abbrev pub shape_of : List Argument → Shape
+abbrev pub shape_of : Given → Shape
 shape_of given = if is_given (codes "stems") given then Stems else Rectangle
 
 -- the range through row S whose second number is the last degree T, or the last stem N: row S then ends in degree S + N, which is the
@@ -224,17 +238,17 @@ range_through Rectangle s t = Some (record { s = s; t = t })
 range_through Stems s n = if nat_le (s + n) MAX_T then Some (record { s = s; t = s + n }) else None
 
 -- the words S and T, within the greatest row and the greatest degree of a range
-abbrev pub range_of : Shape → List Argument → Option Range
+abbrev pub range_of : Shape → Given → Option Range
 range_of shape given =
     option_and_then (λ s. option_and_then (λ t. range_through shape s t) (number_given (codes "T") MAX_T given))
     (number_given (codes "S") MAX_S given)
 
 -- a range through a stem is neither kept in a save file nor told of while it is made
-abbrev pub is_refused_stems : List Argument → Bool
+abbrev pub is_refused_stems : Given → Bool
 is_refused_stems given = is_given (codes "stems") given && (is_given (codes "save") given || is_given (codes "live") given)
 
 -- a range, and the options of all commands that resolve a module
-abbrev pub common_of : List Argument → Option Common
+abbrev pub common_of : Given → Option Common
 common_of given =
     if is_refused_stems given then None
     else option_and_then (λ range.
@@ -251,13 +265,13 @@ common_of given =
 
 -- ---- what is made of it
 
--- the class that `--by` is given, which has to be there
-abbrev pub products_of : List Argument → Option Command
+-- the classes that `--by` is given, which has to be there
+abbrev pub products_of : Given → Option Command
 products_of given =
-    option_and_then (λ common. option_map (λ by. Products common by) (class_given (codes "by") given)) (common_of given)
+    option_and_then (λ common. option_map (λ by. Products common by) (classes_given (codes "by") given)) (common_of given)
 
 -- the classes that `--a`, `--b` and `--c` are given, which all have to be there
-abbrev pub massey_of : List Argument → Option Command
+abbrev pub massey_of : Given → Option Command
 massey_of given =
     option_and_then (λ common.
     option_and_then (λ a.
@@ -276,17 +290,17 @@ built_by word None =
     else None
 built_by word (Some degrees) = if bytes_eq (codes "shift") word then option_map build.Shift (shift_of degrees) else None
 
-abbrev pub build_of : List Argument → Option Build
+abbrev pub build_of : Given → Option Build
 build_of given =
     option_and_then (λ word. built_by word (text_given (codes "degrees") given)) (text_given (codes "OP") given)
 
 -- the number N, with what all commands have that resolve a module
-abbrev pub sample_of : List Argument → Option Command
+abbrev pub sample_of : Given → Option Command
 sample_of given = option_and_then (λ n. option_map (λ common. Sample n common) (common_of given))
     (option_and_then seed_of (text_given (codes "N") given))
 
 -- the product W
-abbrev pub product_given : List Argument → Option (List ℕ)
+abbrev pub product_given : Given → Option (List ℕ)
 product_given given = option_and_then product_of (text_given (codes "W") given)
 
 -- ---- commands
@@ -296,19 +310,23 @@ pub record Grammar : Type 0 where
   pub name : List ℕ
   pub words : List (List ℕ)
   pub options : Options
-  pub make : List Argument → Option Command
+  pub make : Given → Option Command
 
 abbrev pub grammar :
-    List ℕ → List (List ℕ) → List (List ℕ) → List (List ℕ) → (List Argument → Option Command) → Grammar
+    List ℕ → List (List ℕ) → List (List ℕ) → List (List ℕ) → (Given → Option Command) → Grammar
 grammar name words valued flags make =
-    record { name = name; words = words; options = record { valued = valued; flags = flags }; make = make }
+    record { name = name; words = words; options = record { valued = valued; repeated = []; flags = flags }; make = make }
 
 -- a command that resolves a module: the words S and T stand behind its own, and the options that all such commands have
 -- beside its own
 abbrev pub resolving :
-    List ℕ → List (List ℕ) → List (List ℕ) → List (List ℕ) → (List Argument → Option Command) → Grammar
+    List ℕ → List (List ℕ) → List (List ℕ) → List (List ℕ) → (Given → Option Command) → Grammar
 resolving name words valued flags make =
     grammar name (words ++ codes "S" ∷ codes "T" ∷ []) (codes "workers" ∷ valued) (codes "save" ∷ flags) make
+
+-- a command of which an option may be given more than once
+abbrev pub repeating : List ℕ → Grammar → Grammar
+repeating name g = record g { options = record g.options { repeated = name ∷ [] } }
 
 -- the commands
 abbrev pub commands : List Grammar
@@ -316,7 +334,7 @@ commands =
     resolving (codes "sphere") [] [] (codes "live" ∷ codes "stems" ∷ []) (λ given. option_map Sphere (common_of given))
     ∷ resolving (codes "resolve") [] [] (codes "live" ∷ codes "stems" ∷ []) (λ given. option_map Resolve (common_of given))
     ∷ resolving (codes "dump") [] [] (codes "stems" ∷ []) (λ given. option_map Dump (common_of given))
-    ∷ resolving (codes "products") [] (codes "by" ∷ []) [] products_of
+    ∷ repeating (codes "by") (resolving (codes "products") [] (codes "by" ∷ []) [] products_of)
     ∷ resolving (codes "massey") [] (codes "a" ∷ codes "b" ∷ codes "c" ∷ []) [] massey_of
     ∷ grammar (codes "check") [] [] [] (λ given. Some Check)
     ∷ grammar (codes "build") (codes "OP" ∷ []) (codes "degrees" ∷ []) [] (λ given. option_map Built (build_of given))
@@ -326,11 +344,12 @@ commands =
     ∷ grammar (codes "verify") (codes "S" ∷ codes "T" ∷ []) [] [] (λ given. option_map Verify (range_of Rectangle given))
     ∷ []
 
--- what words give to a command: each of its options is among them at most once, and there are no more other words than it has
--- names for
-abbrev pub given_to : Grammar → List (List ℕ) → Option (List Argument)
+-- what words give to a command: each of its options is among them at most once, but for those that may be given more than once, and
+-- there are no more other words than it has names for
+abbrev pub given_to : Grammar → List (List ℕ) → Option Given
 given_to g words = option_and_then
-    (λ parts. if each_once parts && fits (plain_words parts) g.words then Some (arguments_of parts g.words) else None)
+    (λ parts. if each_once g.options.repeated parts && fits (plain_words parts) g.words then Some (given_from parts g.words)
+    else None)
     (parts_of g.options words)
 
 -- what the command makes of that
@@ -342,7 +361,7 @@ abbrev pub grammar_of : List ℕ → Option Grammar
 grammar_of name = find (λ g. bytes_eq g.name name) commands
 
 -- what words give to the command that the first of them names
-abbrev pub given_of : List (List ℕ) → Option (List Argument)
+abbrev pub given_of : List (List ℕ) → Option Given
 given_of [] = None
 given_of (name ∷ words) = option_and_then (λ g. given_to g words) (grammar_of name)
 
@@ -389,7 +408,7 @@ abbrev pub IsWithinLimits : Command → Type 0
 IsWithinLimits (Sphere common) = IsWithin common
 IsWithinLimits (Resolve common) = IsWithin common
 IsWithinLimits (Dump common) = IsWithin common
-IsWithinLimits (Products common by) = IsWithin common × IsShort by
+IsWithinLimits (Products common by) = IsWithin common × All IsShort by
 IsWithinLimits (Massey common a b c) = IsWithin common × IsShort a × IsShort b × IsShort c
 IsWithinLimits Check = ⊤
 IsWithinLimits (Built made) = IsWithinShift made

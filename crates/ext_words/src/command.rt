@@ -5,6 +5,7 @@ ghost use Rattle.ext_words.specs.declared.command.WordsFault.TheVariants.{Memory
 use bidegree::{Class, Range, Shape};
 use memory::Memory;
 use monomial::Mono;
+use std::marker::Model;
 use thiserror::Error;
 
 /// The greatest number of workers.
@@ -47,9 +48,40 @@ pub enum Build {
     Shift(i32),
 }
 
-/// What the words of a command line ask for. It is no `Copy` type, since the numbers of `sq` are a `Mono`, which has memory.
+/// Classes in the order in which words name them, seen as their list. A class that is named twice stands in it twice.
+#[derive(Debug, Drop)]
+pub struct Classes {
+    list: Vec<Class>,
+}
+
+impl Model for Classes {
+    ghost use Rattle.std.specs.Prelude.{List};
+    ghost use Rattle.bidegree.specs.declared.class.Class.{Class};
+
+    ghost Value = { List Class };
+
+    ghost view = { λ classes. classes.list.items };
+}
+
+impl Classes {
+    /// These classes.
+    pub fn of(list: Vec<Class>) -> Self
+        ensures { result ≡ list.items }
+    {
+        Classes { list }
+    }
+
+    /// The classes, the first one first.
+    pub fn as_slice(&self) -> &[Class]
+        ensures { result.now ≡ self.now }
+    {
+        self.list.as_slice()
+    }
+}
+
+/// What the words of a command line ask for. It is no `Copy` type, since `Classes` and the numbers of `sq`, a `Mono`, have memory.
 /// The contract of `parse` hands on the bounds of the numbers.
-#[derive(Debug, PartialEq, Eq, Drop)]
+#[derive(Debug, Drop)]
 pub enum Command {
     /// `sphere S T`: the chart of the sphere.
     Sphere(Common),
@@ -57,10 +89,10 @@ pub enum Command {
     Resolve(Common),
     /// `dump S T`: the differentials of the resolution of the module on standard input.
     Dump(Common),
-    /// `products S T --by C`: the products of the class `by` of the sphere with the classes of the module on standard input.
+    /// `products S T --by C ..`: the products of the classes `by` of the sphere with the classes of the module on standard input.
     Products {
         common: Common,
-        by: Class,
+        by: Classes,
     },
     /// `massey S T --a C --b C --c C`: the bracket of the classes `a` and `b` of the sphere with the class `c` of the module on
     /// standard input.

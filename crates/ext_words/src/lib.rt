@@ -8,7 +8,8 @@ mod remarks;
 mod words;
 
 pub use command::{
-    Build, Command, Common, MAX_SHIFT, MAX_SQUARES, MAX_SQUARES_DEGREE, MAX_WORKERS, WordsFault,
+    Build, Classes, Command, Common, MAX_SHIFT, MAX_SQUARES, MAX_SQUARES_DEGREE, MAX_WORKERS,
+    WordsFault,
 };
 pub use constants::limits_are_these;
 pub use remarks::{remark, remark_on_classes};

@@ -2,9 +2,9 @@
 ghost use Rattle.std.specs.Prelude.{◌≡◌, ◌+◌, ◌-◌, ◌*◌, ◌≤◌, ◌<◌, ◌^◌, pos, neg_ℤ, ◌≤ℤ◌, min, length, option_map, IfOk, IfSome};
 ghost use Rattle.std.specs.List.{All, list_all};
 ghost use Rattle.std.specs.Char.{is_ascii_digit};
-ghost use Rattle.ext_words.specs.Words.{are_digits, decimal_value, number_of, signed_number_of, number_up_to, positive_up_to, shift_of, seed_of, between_commas, class_from, class_of, positive_numbers, product_of, texts_of, IsShort, IsWithinDegree};
+ghost use Rattle.ext_words.specs.Words.{are_digits, decimal_value, number_of, signed_number_of, number_up_to, positive_up_to, shift_of, seed_of, between_commas, class_from, class_of, read_each, positive_numbers, product_of, texts_of, IsShort, IsWithinDegree};
 
-use crate::command::{MAX_SHIFT, MAX_SQUARES, MAX_SQUARES_DEGREE};
+use crate::command::{Classes, MAX_SHIFT, MAX_SQUARES, MAX_SQUARES_DEGREE};
 use bidegree::Class;
 use memory::Memory;
 use monomial::Mono;
@@ -171,6 +171,24 @@ pub fn class_of(alloc: Global, word: &str) -> Result<Option<Class>, Memory>
 {
     let texts = between_commas(alloc, word)?;
     Ok(class_from(texts.as_slice()))
+}
+
+/// The classes that the texts say, none where a text is no class.
+///
+/// # Errors
+/// `Memory` if allocation fails.
+pub fn classes_of(alloc: Global, texts: &[&str]) -> Result<Option<Classes>, Memory>
+    ensures classes { IfOk result (λ classes. classes ≡ read_each class_of (texts_of texts.now)) }
+    ensures within { IfOk result (λ classes. IfSome classes (λ list. All IsShort list)) }
+{
+    let mut classes = Vec::new(alloc);
+    for text in texts {
+        let Some(class) = class_of(alloc, text)? else {
+            return Ok(None);
+        };
+        classes.push(class)?;
+    }
+    Ok(Some(Classes::of(classes)))
 }
 
 /// The numbers of the texts, each from 1 to `limit`, none where a text is no such number.

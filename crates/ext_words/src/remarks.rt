@@ -3,11 +3,11 @@ ghost use Rattle.std.specs.Prelude.{◌≡◌, option_map, option_and_then, stri
 ghost use Rattle.std.specs.List.{list_all};
 ghost use Rattle.ext_words.specs.Inside.CommandLine.{given_in};
 ghost use Rattle.ext_words.specs.Words.{texts_of, given_of};
-ghost use Rattle.ext_words.specs.Remark.{is_printable, is_shown, shown, value_names, is_right, wanted, mark, value_line, wrong_value, first_wrong, form_of, form_line, no_command_line, unknown_line, wrong_with, wrong_under, wrong_of, remark_of, class_text, past_with, past_line, sphere_line, module_line, bracket_line, class_line, remark_on_classes};
+ghost use Rattle.ext_words.specs.Remark.{is_printable, is_shown, shown, value_names, is_right, wanted, mark, value_line, wrong_value, first_wrong, form_of, form_line, no_command_line, unknown_line, wrong_with, wrong_under, wrong_of, remark_of, class_text, past_with, past_line, sphere_line, module_line, products_line, bracket_line, class_line, remark_on_classes};
 
 use crate::command::{Command, MAX_WORKERS};
 use crate::numbers::{class_of, number_up_to, positive_up_to, product_of, seed_of, shift_of};
-use crate::words::{command_of, read, word_in};
+use crate::words::{command_of, read, words_in};
 use bidegree::{Class, MAX_S, MAX_T, Range};
 use clap::ArgMatches;
 use memory::Memory;
@@ -104,15 +104,16 @@ fn value_line(alloc: Global, name: &str, text: &str) -> Result<Vec<u8>, Memory>
     Ok(line.into_bytes())
 }
 
-/// The line on a word or an option, if it is there and has to be something else.
-fn wrong_value(alloc: Global, name: &str, text: Option<&str>) -> Result<Option<Vec<u8>>, Memory>
-    ensures { IfOk result (λ line. option_map (λ l. l.items) line
-        ≡ wrong_value name.now (option_map (λ t. t.now) text.entry)) }
+/// The line on the first of the texts of a word or of an option that has to be something else.
+fn wrong_value(alloc: Global, name: &str, texts: &[&str]) -> Result<Option<Vec<u8>>, Memory>
+    ensures { IfOk result (λ line. option_map (λ l. l.items) line ≡ wrong_value name.now (texts_of texts.now)) }
 {
-    match text {
-        Some(text) if !is_right(alloc, name, text)? => Ok(Some(value_line(alloc, name, text)?)),
-        _ => Ok(None),
+    for text in texts {
+        if !is_right(alloc, name, text)? {
+            return Ok(Some(value_line(alloc, name, text)?));
+        }
     }
+    Ok(None)
 }
 
 /// The line on the first word or option of these names that a command's matches have, and that has to be something else.
@@ -125,7 +126,7 @@ fn first_wrong(
         ≡ first_wrong (texts_of names.now) (given_in matches.now)) }
 {
     for name in names {
-        let line = wrong_value(alloc, name, word_in(matches, name))?;
+        let line = wrong_value(alloc, name, words_in(matches, name))?;
         if line.is_some() {
             return Ok(line);
         }
@@ -147,7 +148,7 @@ fn form_of(name: &str) -> Option<&'static str>
         "dump" => Some(
             "dump S T [--workers=W] [--save], or dump S STEM --stems [--workers=W] with S + STEM at most 255",
         ),
-        "products" => Some("products S T --by=s,t,i [--workers=W] [--save]"),
+        "products" => Some("products S T --by=s,t,i [--by=s,t,i ..] [--workers=W] [--save]"),
         "massey" => Some("massey S T --a=s,t,i --b=s,t,i --c=s,t,i [--workers=W] [--save]"),
         "check" => Some("check"),
         "build" => Some("build sum, build tensor, build dual or build shift --degrees=N"),
@@ -314,6 +315,19 @@ fn module_line(
     past_line(alloc, u32::from(range.s) < class.s, name, range, class)
 }
 
+/// The line on the first of the classes of the sphere that lies past the range.
+fn products_line(alloc: Global, range: Range, by: &[Class]) -> Result<Option<Vec<u8>>, Memory>
+    ensures { IfOk result (λ line. option_map (λ l. l.items) line ≡ products_line range by.now) }
+{
+    for class in by {
+        let line = sphere_line(alloc, "by", range, *class)?;
+        if line.is_some() {
+            return Ok(line);
+        }
+    }
+    Ok(None)
+}
+
 /// The line on the first class of a bracket that lies past the range.
 fn bracket_line(
     alloc: Global,
@@ -338,7 +352,7 @@ fn class_line(alloc: Global, command: &Command) -> Result<Option<Vec<u8>>, Memor
     ensures { IfOk result (λ line. option_map (λ l. l.items) line ≡ class_line command.now) }
 {
     match command {
-        Command::Products { common, by } => sphere_line(alloc, "by", common.range, *by),
+        Command::Products { common, by } => products_line(alloc, common.range, by.as_slice()),
         Command::Massey { common, a, b, c } => bracket_line(alloc, common.range, *a, *b, *c),
         _ => Ok(None),
     }

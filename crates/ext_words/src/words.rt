@@ -1,16 +1,18 @@
 //! The command grammar.
-ghost use Rattle.std.specs.Prelude.{◌≡◌, ◌≢◌, ◌≤◌, ◌⊎◌, Some, None, [], Err, IfOk, IfSome, OnSome, IfNone, false, codes, option_map, option_and_then};
+ghost use Rattle.std.specs.Prelude.{◌≡◌, ◌≢◌, ◌≤◌, ◌⊎◌, Some, None, [], Err, IfOk, IfSome, OnSome, IfNone, false, codes, option_map, option_and_then, unwrap_or};
 ghost use Rattle.clap.specs.Words.{app_of, fault_of, found_of, rows_of, rule_of, subcommand_of, subcommand_rows_of};
-ghost use Rattle.std.specs.List.{list_any};
+ghost use Rattle.std.specs.List.{All, list_any};
 ghost use Rattle.std.specs.Str.{bytes_eq};
 ghost use Rattle.clap.specs.declared.builder.command.Command.TheViews.{out-Command};
 ghost use Rattle.ext_words.specs.Inside.CommandLine.{is_stray, option_named, flag_named, command_with, no_command, command_line, given_in, given_below, command_named, command_in};
 ghost use Rattle.ext_words.specs.declared.command.TheConstants.{MAX_WORKERS};
 ghost use Rattle.ext_words.specs.declared.command.WordsFault as WordsFault;
-ghost use Rattle.ext_words.specs.Words.{texts_of, has_live, text_given, is_given, number_given, workers_of, shape_of, range_through, range_of, common_of, class_given, products_of, massey_of, built_by, build_of, seed_of, sample_of, product_given, given_of, command_of, IsRangeWithin, IsRangeOf, IsWithin, IsShort, IsWithinShift, IsWithinDegree, IsWithinLimits};
+ghost use Rattle.ext_words.specs.Words.{texts_of, has_live, text_given, is_given, number_given, workers_of, shape_of, range_through, range_of, common_of, class_given, classes_given, products_of, massey_of, built_by, build_of, seed_of, sample_of, product_given, given_of, command_of, IsRangeWithin, IsRangeOf, IsWithin, IsShort, IsWithinShift, IsWithinDegree, IsWithinLimits};
 
-use crate::command::{Build, Command, Common, MAX_WORKERS, WordsFault};
-use crate::numbers::{class_of, number_up_to, positive_up_to, product_of, seed_of, shift_of};
+use crate::command::{Build, Classes, Command, Common, MAX_WORKERS, WordsFault};
+use crate::numbers::{
+    class_of, classes_of, number_up_to, positive_up_to, product_of, seed_of, shift_of,
+};
 use bidegree::{Class, MAX_S, MAX_T, Range, Shape};
 use clap::error::ErrorKind;
 use clap::{Arg, ArgAction, ArgMatches};
@@ -18,13 +20,25 @@ use memory::Memory;
 use monomial::Mono;
 use std::alloc::{AllocError, Global};
 
-/// An option that has a value. No option and no word is marked as required: where one is missing, what reads it finds
-/// none.
-fn option_named<'a>(alloc: Global, name: &'a str) -> Arg<'a>
-    ensures rule { rule_of result ≡ option_named name.now }
+/// An option that has a value, or one for each of its uses, if it `repeats`. No option and no word is marked as required: where one
+/// is missing, what reads it finds none.
+fn option_named<'a>(alloc: Global, repeats: bool, name: &'a str) -> Arg<'a>
+    ensures rule { rule_of result ≡ option_named repeats name.now }
     ensures local { result.global ≡ false }
 {
-    Arg::new(alloc, name).long(name)
+    let option = Arg::new(alloc, name).long(name);
+    if repeats {
+        option.action(ArgAction::Append)
+    } else {
+        option
+    }
+}
+
+/// Whether a name is among these.
+fn is_in(names: &[&str], name: &str) -> bool
+    ensures { result ≡ list_any (λ other. bytes_eq other.now name.now) names.now }
+{
+    names.iter().any(|other| *other == name)
 }
 
 /// An option that has no value. For `clap` it is an option with 0 values, and not a flag that is set: it leaves no match
@@ -39,16 +53,17 @@ fn flag_named<'a>(alloc: Global, name: &'a str) -> Arg<'a>
         .num_args(0)
 }
 
-/// A command with these words, options and flags.
+/// A command with these words, options and flags. Some of the options may be given more than once.
 fn command_with<'a>(
     alloc: Global,
     name: &'a str,
     words: &[&'a str],
     options: &[&'a str],
+    repeated: &[&str],
     flags: &[&'a str],
 ) -> Result<clap::Command<'a>, AllocError>
     ensures app { IfOk result (λ made. app_of made ≡ command_with name.now (texts_of words.now)
-        (record { valued = texts_of options.now; flags = texts_of flags.now })) }
+        (record { valued = texts_of options.now; repeated = texts_of repeated.now; flags = texts_of flags.now })) }
     ensures local { IfOk result (λ made. (out-Command made).has_globals ≡ false) }
 {
     let mut command = clap::Command::new(alloc, name);
@@ -56,7 +71,7 @@ fn command_with<'a>(
         command = command.arg(Arg::new(alloc, word))?;
     }
     for option in options {
-        command = command.arg(option_named(alloc, option))?;
+        command = command.arg(option_named(alloc, is_in(repeated, option), option))?;
     }
     for flag in flags {
         command = command.arg(flag_named(alloc, flag))?;
@@ -85,6 +100,7 @@ fn command_line<'a>(alloc: Global) -> Result<clap::Command<'a>, AllocError>
             "sphere",
             &["S", "T"],
             &["workers"],
+            &[],
             &["save", "live", "stems"],
         )?)?
         .subcommand(command_with(
@@ -92,14 +108,23 @@ fn command_line<'a>(alloc: Global) -> Result<clap::Command<'a>, AllocError>
             "resolve",
             &["S", "T"],
             &["workers"],
+            &[],
             &["save", "live", "stems"],
         )?)?
-        .subcommand(command_with(alloc, "dump", &["S", "T"], &["workers"], &["save", "stems"])?)?
+        .subcommand(command_with(
+            alloc,
+            "dump",
+            &["S", "T"],
+            &["workers"],
+            &[],
+            &["save", "stems"],
+        )?)?
         .subcommand(command_with(
             alloc,
             "products",
             &["S", "T"],
             &["workers", "by"],
+            &["by"],
             &["save"],
         )?)?
         .subcommand(command_with(
@@ -107,20 +132,22 @@ fn command_line<'a>(alloc: Global) -> Result<clap::Command<'a>, AllocError>
             "massey",
             &["S", "T"],
             &["workers", "a", "b", "c"],
+            &[],
             &["save"],
         )?)?
-        .subcommand(command_with(alloc, "check", &[], &[], &[])?)?
-        .subcommand(command_with(alloc, "build", &["OP"], &["degrees"], &[])?)?
+        .subcommand(command_with(alloc, "check", &[], &[], &[], &[])?)?
+        .subcommand(command_with(alloc, "build", &["OP"], &["degrees"], &[], &[])?)?
         .subcommand(command_with(
             alloc,
             "sample",
             &["N", "S", "T"],
             &["workers"],
+            &[],
             &["save", "stems"],
         )?)?
-        .subcommand(command_with(alloc, "sq", &["W"], &[], &[])?)?
-        .subcommand(command_with(alloc, "migrate", &[], &[], &[])?)?
-        .subcommand(command_with(alloc, "verify", &["S", "T"], &[], &[])?)
+        .subcommand(command_with(alloc, "sq", &["W"], &[], &[], &[])?)?
+        .subcommand(command_with(alloc, "migrate", &[], &[], &[], &[])?)?
+        .subcommand(command_with(alloc, "verify", &["S", "T"], &[], &[], &[])?)
 }
 
 /// The matches of the words, none where `clap` refuses them.
@@ -142,6 +169,13 @@ pub(crate) fn word_in<'m>(matches: &'m ArgMatches, id: &str) -> Option<&'m str>
     ensures { option_map (λ word. word.now) result ≡ text_given id.now (given_in matches.now) }
 {
     matches.get_str(id)
+}
+
+/// The values that a command's matches have of the option of this name, or the word, in their order.
+pub(crate) fn words_in<'m>(matches: &'m ArgMatches, id: &str) -> &'m [&'m str]
+    ensures { texts_of result.now ≡ unwrap_or (given_in matches.now id.now) [] }
+{
+    matches.get_strs(id).unwrap_or(&[])
 }
 
 /// The number of a command's word, at most `limit`.
@@ -240,6 +274,18 @@ fn class_in(alloc: Global, matches: &ArgMatches, name: &str) -> Result<Option<Cl
     }
 }
 
+/// The classes that an option of a command's matches has.
+fn classes_in(alloc: Global, matches: &ArgMatches, name: &str) -> Result<Option<Classes>, Memory>
+    ensures classes { IfOk result (λ classes. classes ≡ classes_given name.now (given_in matches.now)) }
+    ensures within { IfOk result (λ classes. IfSome classes (λ list. All IsShort list)) }
+{
+    if has_flag(matches, name) {
+        classes_of(alloc, words_in(matches, name))
+    } else {
+        Ok(None)
+    }
+}
+
 /// The command of products that a command's matches ask for.
 fn products_in(alloc: Global, matches: &ArgMatches) -> Result<Option<Command>, Memory>
     ensures command { IfOk result (λ command. command ≡ products_of (given_in matches.now)) }
@@ -248,7 +294,7 @@ fn products_in(alloc: Global, matches: &ArgMatches) -> Result<Option<Command>, M
     let Some(common) = common_in(matches) else {
         return Ok(None);
     };
-    let Some(by) = class_in(alloc, matches, "by")? else {
+    let Some(by) = classes_in(alloc, matches, "by")? else {
         return Ok(None);
     };
     Ok(Some(Command::Products { common, by }))

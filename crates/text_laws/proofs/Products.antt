@@ -1,5 +1,5 @@
 -- The lines of the products through a range are those of a larger one that are in it.
-use Rattle.std.proofs.Common.{◌≡◌, inl, inr, ℕ, ◌+◌, ◌-◌, ◌<◌, ◌≤◌, ℤ, pos, ◌+ℤ◌, Bool, true, false, ◌&&◌, List, [], map, length, if◌then◌else◌, refl, ap, sym, subst, ◌∙◌, arith}
+use Rattle.std.proofs.Common.{◌≡◌, inl, inr, ℕ, ◌+◌, ◌-◌, ◌<◌, ◌≤◌, ℤ, pos, ◌+ℤ◌, Bool, true, false, ◌&&◌, List, [], ◌∷◌, map, length, if◌then◌else◌, refl, ap, sym, subst, ◌∙◌, arith}
 use Rattle.std.specs.Prelude.{Some, None, MatchOption, Result, Ok, Err, IsOkAnd, nat_lt, int_lt}
 use Rattle.std.specs.List.{filter, range_with_len}
 use Rattle.std.proofs.lemmas.Bool.{cases_lt, and_left, and_right}
@@ -26,6 +26,7 @@ use Rattle.ext_products.specs.declared.refusal.Named.TheVariants.{By}
 use Rattle.ext_products.specs.Products.{OneEach, class_at, classes_of, classes_in_row, factors, IsProductLine, IsProductsText, IsProductsAnswer}
 use Rattle.ext_products.proofs.Factors.{IsFactor, are_factors}
 use Rattle.ext_products.proofs.Answers.{found, within-range}
+use Rattle.ext_products.proofs.Several.{answer-of-one}
 use Rattle.text_laws.specs.Texts.{AreResolved, is_in, HasLinesIn, ProductsOfSmallerRange}
 use Rattle.text_laws.proofs.Filters.{filter-map_same, filter-first, OneEach-filter, OneEach-same}
 
@@ -43,8 +44,8 @@ by_missing range by r q text true count e told =
     record { told = told; there = subst (λ (c : ClassAbove). c.i < count_of q c.s c.above) (sym same) f.there }
 by_missing range by r q text false count e told = absurd cc
 
-text_of : (range : Range) (by : Class) (r q : Resolution) (text : List ℕ) → IsProductsAnswer range by r q (Ok text) → IsTextOf range by r q text
-text_of range by r q text answer = by_missing range by r q text (nat_lt by.i (class_count q by.s by.t)) (class_count q by.s by.t) refl answer
+text_of : (range : Range) (by : Class) (r q : Resolution) (text : List ℕ) → IsProductsAnswer range (by ∷ []) r q (Ok text) → IsTextOf range by r q text
+text_of range by r q text answer = by_missing range by r q text (nat_lt by.i (class_count q by.s by.t)) (class_count q by.s by.t) refl ((answer-of-one range by r q (Ok text)).0 answer)
 
 -- ---- which classes are left
 

@@ -1,6 +1,6 @@
 -- What is printed of products and of a bracket does not depend on the range: a smaller range has the lines that lie in it, and a
 -- bracket is the same wherever there is one.
-use Rattle.std.specs.Prelude.{◌≡◌, ℕ, ◌+◌, ◌≤◌, ℤ, pos, ◌+ℤ◌, Bool, ◌&&◌, nat_lt, int_lt, List, Ok}
+use Rattle.std.specs.Prelude.{◌≡◌, ℕ, ◌+◌, ◌≤◌, ℤ, pos, ◌+ℤ◌, Bool, ◌&&◌, nat_lt, int_lt, List, [], ◌∷◌, Ok}
 use Rattle.std.specs.List.{filter}
 use Rattle.bidegree.specs.declared.range.Range.{Range}
 use Rattle.bidegree.specs.declared.class.Class.{Class}
@@ -28,15 +28,16 @@ pub record HasLinesIn (range : Range) (bottom : ℤ) (all text : List ℕ) : Typ
   pub all_are : all ≡ product_lines_text lines
   pub text_is : text ≡ product_lines_text (filter (is_in range bottom) lines)
 
--- The products with a class through a range are just those lines of the products through a larger one that are in it.
+-- The products with a class through a range are just those lines of the products through a larger one that are in it. (Those with
+-- several classes are the lines of each.)
 abbrev pub ProductsOfSmallerRange : Type 0
 ProductsOfSmallerRange =
     (range more : Range) (by : Class) (m w : Module) (table sphere other other_sphere : List (List Content)) →
     (text all : List ℕ) →
     range.s ≤ more.s → range.t ≤ more.t → AreResolved range (resolution_in m table) (resolution_in w sphere) →
     AreResolved more (resolution_in m other) (resolution_in w other_sphere) →
-    IsProductsAnswer range by (resolution_in m table) (resolution_in w sphere) (Ok text) →
-    IsProductsAnswer more by (resolution_in m other) (resolution_in w other_sphere) (Ok all) →
+    IsProductsAnswer range (by ∷ []) (resolution_in m table) (resolution_in w sphere) (Ok text) →
+    IsProductsAnswer more (by ∷ []) (resolution_in m other) (resolution_in w other_sphere) (Ok all) →
     HasLinesIn range m.bottom all text
 
 -- A bracket of three classes is one text through all ranges in which it is told.

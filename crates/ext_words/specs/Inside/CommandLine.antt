@@ -1,13 +1,13 @@
 -- What `clap` is told of the command line, and what is read from its matches.
-use Rattle.std.specs.Prelude.{◌==◌, ◌&&◌, not, Bool, true, false, List, [], ◌∷◌, Option, Some, map, slice_get, option_map, option_and_then, codes}
+use Rattle.std.specs.Prelude.{◌==◌, ◌&&◌, not, Bool, true, false, List, [], ◌∷◌, Option, Some, None, map, option_map, if◌then◌else◌, option_and_then, codes}
 use Rattle.std.specs.List.{fold, list_any}
-use Rattle.clap.specs.Walk.{Row, Rule, Text}
+use Rattle.clap.specs.Walk.{Row, Rule, Text, all_of}
 use Rattle.clap.specs.Simple.{App, new_app, new_rule, on_top, with_rule, with_subcommand}
 use Rattle.clap.specs.Words.{found_of, rows_of}
 use Rattle.clap.specs.declared.parser.matches.ArgMatches.{ArgMatches}
-use Rattle.clap.specs.declared.builder.action.ArgAction.TheVariants.{Set}
+use Rattle.clap.specs.declared.builder.action.ArgAction.TheVariants.{Set, Append}
 use Rattle.ext_words.specs.declared.command.Command.{Command}
-use Rattle.ext_words.specs.Words.{Argument, Grammar, Options, commands, grammar_of}
+use Rattle.ext_words.specs.Words.{Given, Grammar, Options, is_in, commands, grammar_of}
 
 -- ---- words that `clap` is not told of: `--`, behind which it takes words as they are, and those behind one hyphen, of which it
 -- takes some as plain words
@@ -27,9 +27,9 @@ has_stray words = list_any is_stray words
 abbrev pub word_named : Text → Rule
 word_named id = new_rule id
 
--- an option with a value
-abbrev pub option_named : Text → Rule
-option_named name = record (new_rule name) { long = Some name }
+-- an option with a value; one that may be given more than once has the values of all its uses
+abbrev pub option_named : Bool → Text → Rule
+option_named repeats name = record (new_rule name) { long = Some name; action = if repeats then Some Append else None }
 
 -- an option without a value
 abbrev pub flag_named : Text → Rule
@@ -42,7 +42,8 @@ flag_named name = record (new_rule name) {
 -- a command with these words, options and flags
 abbrev pub command_with : Text → List Text → Options → App
 command_with name words options = fold with_rule
-    (fold with_rule (fold with_rule (new_app name) (map word_named words)) (map option_named options.valued))
+    (fold with_rule (fold with_rule (new_app name) (map word_named words))
+    (map (λ n. option_named (is_in options.repeated n) n) options.valued))
     (map flag_named options.flags)
 
 -- one more command below
@@ -66,19 +67,15 @@ command_line = fold with_command no_command commands
 
 -- ---- what is read from the matches
 
--- what matches have under a name: its first value
-abbrev pub argument_of : Row → Argument
-argument_of row = record { name = row.id; text = slice_get row.values 0 }
+-- what a command's matches give to it: the values that they have under a name
+abbrev pub given_by : List Row → Given
+given_by rows name = all_of name rows
 
--- what a command's matches give to it
-abbrev pub given_by : List Row → List Argument
-given_by rows = map argument_of rows
-
-abbrev pub given_in : ArgMatches → List Argument
+abbrev pub given_in : ArgMatches → Given
 given_in matches = given_by (rows_of (found_of matches))
 
 -- what is given to the command that matches name
-abbrev pub given_below : Option (Text × List Row) → Option (List Argument)
+abbrev pub given_below : Option (Text × List Row) → Option Given
 given_below matches = option_map (λ p. given_by p.1) matches
 
 -- the command of a name, with its matches

@@ -1,4 +1,4 @@
-use Rattle.ext_products.proofs.Answers.{answers-exist}
+use Rattle.ext_products.proofs.Several.{answers-exist}
 use Rattle.ext_products.proofs.laws.products_answer_exists.Goals as goal
 
 pub returns : goal.returns

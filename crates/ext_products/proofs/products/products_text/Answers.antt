@@ -1,36 +1,47 @@
-use Rattle.std.proofs.Common.{◌≡◌, ◌∙◌, ap, subst, refl}
-use Rattle.std.specs.Prelude.{Some, None}
-use Rattle.bidegree.specs.declared.range.Range.{Range}
-use Rattle.square.specs.Tables.{IsThrough}
-use Rattle.chain_map.specs.Lifting.{IsCanonicalIn}
-use Rattle.chain_map.specs.Classes.{through, missing_in}
-use Rattle.yoneda.specs.Products.{IsPlaceOf}
-use Rattle.ext_chart.specs.Classes.{product_lines_text}
-use Rattle.ext_products.specs.declared.refusal.Refusal.TheVariants.{NoClass}
-use Rattle.ext_products.specs.declared.refusal.Named.TheVariants.{By}
-use Rattle.ext_products.proofs.Transport.{text-answer, refused-answer}
+use Rattle.std.proofs.Common.{◌≡◌, length, arith}
+use Rattle.std.specs.Prelude.{◌≢◌, Ok, Err, nat_lt}
+use Rattle.std.proofs.lemmas.Result.{err_from_is_err_and}
+use Rattle.finite_module.specs.Checked.{sphere_file}
+use Rattle.finite_module.specs.DerivedAction.{derived_module}
+use Rattle.chain_map.specs.Classes.{through}
+use Rattle.ext_products.specs.declared.refusal.ClassesFault.TheVariants.{Refused, Memory as OutOfMemory}
+use Rattle.ext_products.specs.declared.refusal.Refusal.{Refusal}
+use Rattle.ext_products.specs.Products.{resolution, IsAnswerOfOne, IsProductsAnswer, IsAnswerOver, IsAnswerIn}
+use Rattle.ext_products.proofs.Several.{headed-more, headed-all, headed-map, missing-more, refused-told, each-told}
 use Rattle.ext_products.proofs.products.products_text.Goals as goal
 
-pub returns-in-Ok-clause-text : goal.returns-in-Ok-clause-text
-returns-in-Ok-clause-text c =
-    let by = c.args.by in
-    let sphere = c.in_ok-sphere.sphere in
-    let made = c.in_ok-sphere.ensures in
-    let reach = c.reach_of-reach.ensures in
-    let a = c.in-Ok.a in
-    let are = subst (λ (r : Range). IsCanonicalIn r sphere) reach made.canonical in
-    let near = subst (λ (r : Range). IsThrough r sphere.rows) reach made.through in
-    let is = subst (λ (r : Range). IsPlaceOf sphere r by a) reach c.in-Ok.ensures.place in
-    let there = subst (λ (r : Range). missing_in (through r sphere) by ≡ None) reach c.in-Ok.ensures.there in
-    text-answer c.args.table.now sphere c.args.range by are made.sphere made.module_is c.lifts_give_one_product.ensures c.modules_are_graded_modules.ensures c.known.ensures.is_table c.in-Ok.ensures.is_table c.requires.through near
-    a is there c.in_ok-lines-in-Ok.lines.items c.in_ok-lines-in-Ok.ensures _ (c.in_ok-product_lines-in-Ok.ensures ∙ ap product_lines_text c.as_slice.ensures.value)
+pub loop-class-preserved : goal.loop-class-preserved
+loop-class-preserved c = record {
+  there = λ sphere canonical.
+      let q = resolution (derived_module sphere_file) sphere in
+      missing-more c.args.range q q c.args.by.now c.loop-class.class-index _ c.loop-class-test.true (c.in_ok-lines.ensures.there sphere canonical) (c.loop-class.invariant.there sphere canonical);
+  texts = headed-more (λ by text. IsAnswerOver (IsAnswerOfOne c.args.range by) c.args.table.now c.args.range (Ok text)) (nat_lt 1 (length c.args.by.now)) c.args.by.now c.loop-class.class-index _ c.loop-class.text.items c.in_ok-lines.lines.items _ _ c.loop-class-test.true
+      c.loop-class.invariant.texts c.in_ok-lines.ensures.text c.as_slice.ensures.value c.in_ok-add_headed.ensures;
+}
 
-pub returns-clause-refused : goal.returns-clause-refused
-returns-clause-refused c = λ other.
-    let by = c.args.by in
-    let sphere = c.in_ok-sphere.sphere in
-    let made = c.in_ok-sphere.ensures in
-    let reach = c.reach_of-reach.ensures in
-    let are = subst (λ (r : Range). IsCanonicalIn r sphere) reach made.canonical in
-    let missed = subst (λ (r : Range). missing_in (through r sphere) by ≡ Some c.in-Err.count) reach c.in-Err.ensures.missing in
-    (NoClass By by c.in-Err.count, refl, refused-answer c.args.table.now sphere c.args.range by are made.sphere made.module_is c.in-Err.count missed)
+pub returns-in_err-lines-clause-refused : goal.returns-in_err-lines-clause-refused
+returns-in_err-lines-clause-refused c =
+    let p = err_from_is_err_and c.from_residual.result c.from_residual.ensures.1 in
+    let range = c.args.range in
+    let by = c.args.by.now in
+    let table = c.args.table.now in
+    let e = c.in_err-lines.field-0.0 in
+    let told : e ≢ OutOfMemory → (refusal : Refusal) × (e ≡ Refused refusal) × IsAnswerIn (IsProductsAnswer range by) table range (Err refusal) =
+        λ other.
+        let one = c.in_err-lines.ensures.refused other in
+        (one.0, one.1, λ sphere canonical.
+            refused-told range (through range table) (resolution (derived_module sphere_file) sphere) by c.loop-class.class-index _ one.0 c.loop-class-test.true (c.loop-class.invariant.there sphere canonical) (one.2 sphere canonical)) in
+    rw (p.1, p.2) told
+
+pub returns-clause-text : goal.returns-clause-text
+returns-clause-text c = λ are sphere canonical.
+    let range = c.args.range in
+    let by = c.args.by.now in
+    let table = c.args.table.now in
+    let r = through range table in
+    let q = resolution (derived_module sphere_file) sphere in
+    let named = nat_lt 1 (length by) in
+    let text = c.loop-class.text.items in
+    let all = headed-all (λ class t. IsAnswerOver (IsAnswerOfOne range class) table range (Ok t)) named by c.loop-class.class-index text (omega (arith, c.loop-class-test.false)) c.loop-class.invariant.texts in
+    each-told range r q by text
+    (headed-map (λ class t. IsAnswerOver (IsAnswerOfOne range class) table range (Ok t)) (λ class t. IsAnswerOfOne range class r q (Ok t)) named (λ class t told. told are sphere canonical) by text all)

@@ -36,7 +36,7 @@ returns-clause-told c = λ has.
     let table : Staircase = canonical_table images.resolved images.range in
     let resolved = subst (λ (r : Range). IsResolved r images.resolved.plain (cut r (plain_rows table.rows))) c.requires.range (resolved_whole laws images c.requires.whole) in
     let canonical = subst (λ (r : Range). IsCanonicalIn r table) c.requires.range (are_canonical images.resolved images.range c.requires.whole.row c.requires.whole.degree) in
-    is_told_of_classes laws (IsProductsAnswer c.args.range c.args.by) c.args.range table (Ok c.in_ok-products_text.field-0.items) resolved (c.in_ok-products_text.ensures.text canonical)
+    is_told_of_classes laws (IsProductsAnswer c.args.range c.args.by.now) c.args.range table (Ok c.in_ok-products_text.field-0.items) resolved (c.in_ok-products_text.ensures.text canonical)
 
 pub returns-in_err-products_text-clause-told : goal.returns-in_err-products_text-clause-told
 returns-in_err-products_text-clause-told c = λ has.
@@ -44,17 +44,17 @@ returns-in_err-products_text-clause-told c = λ has.
     let images = c.args.images.now in
     let table : Staircase = canonical_table images.resolved images.range in
     let resolved = subst (λ (r : Range). IsResolved r images.resolved.plain (cut r (plain_rows table.rows))) c.requires.range (resolved_whole laws images c.requires.whole) in
-    let p = err_from_is_err_and c.from_residual.result c.from_residual.ensures.1 in
+    let p = err_from_is_err_and c.from_residual-in_err-products_text.result c.from_residual-in_err-products_text.ensures.1 in
     let is = p.1 ∙ ap Err p.2 in
-    let known = classes_failed (IsAnswerIn (IsProductsAnswer c.args.range c.args.by) table c.args.range) c.in_err-products_text.field-0.0 c.from_residual.result is c.in_err-products_text.ensures.refused has in
-    subst (IsToldOfClasses (IsProductsAnswer c.args.range c.args.by) c.args.range images.resolved.plain) (sym known.1) (is_told_of_classes laws (IsProductsAnswer c.args.range c.args.by) c.args.range table known.0 resolved known.2)
+    let known = classes_failed (IsAnswerIn (IsProductsAnswer c.args.range c.args.by.now) table c.args.range) c.in_err-products_text.field-0.0 c.from_residual-in_err-products_text.result is c.in_err-products_text.ensures.refused has in
+    subst (IsToldOfClasses (IsProductsAnswer c.args.range c.args.by.now) c.args.range images.resolved.plain) (sym known.1) (is_told_of_classes laws (IsProductsAnswer c.args.range c.args.by.now) c.args.range table known.0 resolved known.2)
 
 pub returns-in_err-products_text-clause-why : goal.returns-in_err-products_text-clause-why
 returns-in_err-products_text-clause-why c =
     let laws : TableLaws = record { exists = c.canonical_table_exists.ensures; minimal = c.canonical_table_is_minimal_resolution.ensures; modules = c.modules_are_graded_modules.ensures; accepted = c.accepted_is_module.ensures } in
     let images = c.args.images.now in
     let table : Staircase = canonical_table images.resolved images.range in
-    let p = err_from_is_err_and c.from_residual.result c.from_residual.ensures.1 in
+    let p = err_from_is_err_and c.from_residual-in_err-products_text.result c.from_residual-in_err-products_text.ensures.1 in
     let is = p.1 ∙ ap Err p.2 in
-    let refused = classes_refused (IsRefusedOver (IsProductsAnswer c.args.range c.args.by) c.args.range images.resolved.plain) c.in_err-products_text.field-0.0 (λ some. let known = c.in_err-products_text.ensures.refused some in (known.0, known.1, refused_over laws (IsProductsAnswer c.args.range c.args.by) c.args.range table known.0 known.2)) in
-    subst (λ (text : Told). IfErr text (λ e. (e ≡ Memory) ⊎ IsRefusedIn (Products c.args.by) c.args.range images.resolved.plain (Err e))) (sym is) refused
+    let refused = classes_refused (IsRefusedOver (IsProductsAnswer c.args.range c.args.by.now) c.args.range images.resolved.plain) c.in_err-products_text.field-0.0 (λ some. let known = c.in_err-products_text.ensures.refused some in (known.0, known.1, refused_over laws (IsProductsAnswer c.args.range c.args.by.now) c.args.range table known.0 known.2)) in
+    subst (λ (text : Told). IfErr text (λ e. (e ≡ Memory) ⊎ IsRefusedIn (Products c.args.by.now) c.args.range images.resolved.plain (Err e))) (sym is) refused

@@ -6,11 +6,7 @@ use Rattle.ext_run.proofs.texts.unsaved_alone.Goals as goal
 
 pub returns-in-Products-clause-told : goal.returns-in-Products-clause-told
 returns-in-Products-clause-told c = λ has.
-    subst (λ (form : Form). IsInForm form c.args.resolution.common.range c.args.resolution.resolved.plain (answer_of c.row_one_alone.result)) (sym c.in-Products.is) (c.row_one_alone.ensures.told has)
-
-pub returns-in-Products-2-clause-told : goal.returns-in-Products-2-clause-told
-returns-in-Products-2-clause-told c = λ has.
-    subst (λ (form : Form). IsInForm form c.args.resolution.common.range c.args.resolution.resolved.plain (answer_of c.products_alone.result)) (sym c.in-Products-2.is) (c.products_alone.ensures.told has)
+    subst (λ (form : Form). IsInForm form c.args.resolution.common.range c.args.resolution.resolved.plain (answer_of c.products_alone.result)) (sym c.in-Products.is) (c.products_alone.ensures.told has)
 
 pub returns-in-Bracket-clause-told : goal.returns-in-Bracket-clause-told
 returns-in-Bracket-clause-told c = λ has.
