@@ -21,7 +21,7 @@ use Rattle.resolution_laws.proofs.TableIsUnique.{table_is_unique}
 use Rattle.square.specs.Squares.{module_over}
 use Rattle.ext_chart.specs.Product.{product_text}
 use Rattle.ext_products.specs.Products.{resolution, Telling, HasOneAnswer, IsProductsAnswer}
-use Rattle.ext_products.proofs.Answers.{answers-unique}
+use Rattle.ext_products.proofs.Several.{answers-unique}
 use Rattle.ext_brackets.specs.Brackets.{IsBracketAnswer}
 use Rattle.ext_brackets.proofs.Unique.{answers-unique as bracket-answers-unique}
 use Rattle.ext_report.specs.declared.failure.Failure.{Failure}

@@ -1,12 +1,14 @@
-use Rattle.std.proofs.Common.{sym, subst}
+use Rattle.std.proofs.Common.{List, ap, sym, subst, ◌∙◌}
+use Rattle.bidegree.specs.declared.class.Class.{Class}
 use Rattle.ext_run.specs.declared.plan.Form.{Form}
+use Rattle.ext_run.specs.declared.plan.Form.TheVariants.{Products}
 use Rattle.ext_run.specs.Forms.{IsInForm}
 use Rattle.ext_run.specs.Work.{answer_of}
 use Rattle.ext_run.proofs.texts.unsaved_alone.Goals as goal
 
 pub returns-in-Products-clause-told : goal.returns-in-Products-clause-told
 returns-in-Products-clause-told c = λ has.
-    subst (λ (form : Form). IsInForm form c.args.resolution.common.range c.args.resolution.resolved.plain (answer_of c.products_alone.result)) (sym c.in-Products.is) (c.products_alone.ensures.told has)
+    subst (λ (form : Form). IsInForm form c.args.resolution.common.range c.args.resolution.resolved.plain (answer_of c.products_alone.result)) (sym (c.in-Products.is ∙ ap (λ (by : List Class). Products by) (sym c.as_slice.ensures))) (c.products_alone.ensures.told has)
 
 pub returns-in-Bracket-clause-told : goal.returns-in-Bracket-clause-told
 returns-in-Bracket-clause-told c = λ has.
