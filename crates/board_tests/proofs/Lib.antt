@@ -1,3 +1,4 @@
 mod LastTwo
 mod NoSquares
 mod NumbersMore
+mod NoneOut

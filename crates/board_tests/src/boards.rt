@@ -71,6 +71,7 @@ fn idle<R: Wait + Clock + Abort, K: Keep>(
     ensures jobs { (job : Taking Footing) → IsJobOf (kept_words K.telling) board.now.name pass.old.number pass.old.own job →
         IsJobOf (kept_words K.telling) board.now.name pass.new.number pass.new.own job }
     ensures told { IsIdle (state_seen (kept_words K.telling) pass.new) }
+    ensures own { pass.new.own ≡ pass.old.own }
 {
     match board.take(rt, alloc, pass) {
         Ok(Taken::Idle) => {}

@@ -1,6 +1,9 @@
 use denote.Param.Send.{sendable}
 use Rattle.std.proofs.Crossing.{crosses}
+use Rattle.std.proofs.Common.{sym, subst}
 use Rattle.square.proofs.Crossing.{Inputs-send, Square-send}
+use Rattle.board_core.specs.Entries.{HasNoneOut}
+use Rattle.board_tests.proofs.NoneOut.{new_has_none}
 use Rattle.board_tests.proofs.boards.all_squares_are_given.Goals as goal
 
 pub rest-requires-send-T-Inputs : goal.rest-requires-send-T-Inputs
@@ -35,3 +38,8 @@ count-requires-send-T-Made g c κs = search (crosses, sendable, Square-send) dep
 
 pub give-requires-2-clause-job : goal.give-requires-2-clause-job
 give-requires-2-clause-job g c = c.idle-2.ensures.jobs c.taken-left.result c.taken-left.ensures.job
+
+pub rest-requires-clause-none : goal.rest-requires-clause-none
+rest-requires-clause-none g c κs =
+    let new = new_has_none c.in_ok-board.board 1 c.in_ok-board.second c.in_ok-board.ensures.second in
+    subst HasNoneOut (sym c.idle.ensures.own) new
