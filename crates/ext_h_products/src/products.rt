@@ -41,12 +41,7 @@ pub fn h_products_text(
 }
 
 /// The lines of the products with one class.
-fn text_of_one(
-    alloc: Global,
-    images: &Images,
-    range: Range,
-    by: Class,
-) -> Result<Vec<u8>, Memory>
+fn text_of_one(alloc: Global, images: &Images, range: Range, by: Class) -> Result<Vec<u8>, Memory>
     requires rows { range.s ≤ MAX_S }
     requires degrees { range.t ≤ MAX_T }
     requires through { ReachThrough range images.now }

@@ -27,10 +27,13 @@ returns-in_err-lines-clause-refused c =
     let table = c.args.table.now in
     let e = c.in_err-lines.field-0.0 in
     let told : e ≢ OutOfMemory → (refusal : Refusal) × (e ≡ Refused refusal) × IsAnswerIn (IsProductsAnswer range by) table range (Err refusal) =
-        λ other.
-        let one = c.in_err-lines.ensures.refused other in
-        (one.0, one.1, λ sphere canonical.
-            refused-told range (through range table) (resolution (derived_module sphere_file) sphere) by c.loop-class.class-index _ one.0 c.loop-class-test.true (c.loop-class.invariant.there sphere canonical) (one.2 sphere canonical)) in
+    λ other.
+    let one = c.in_err-lines.ensures.refused other in (
+      one.0,
+      one.1,
+      λ sphere canonical.
+          refused-told range (through range table) (resolution (derived_module sphere_file) sphere) by c.loop-class.class-index _ one.0 c.loop-class-test.true (c.loop-class.invariant.there sphere canonical) (one.2 sphere canonical),
+    ) in
     rw (p.1, p.2) told
 
 pub returns-clause-text : goal.returns-clause-text
