@@ -157,6 +157,10 @@ fn with_rows(
 {
     resolution_laws::canonical_table_is_minimal_resolution();
     finite_module::modules_are_graded_modules();
+    // Where a square has no classes, nothing of the sphere's resolution is inverted.
+    if lifts.is_empty() {
+        return Ok(lifts);
+    }
     if course.reach == 0 {
         return Ok(lifts);
     }

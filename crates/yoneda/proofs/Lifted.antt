@@ -20,13 +20,6 @@ pub shifted_length-positive : (above n : ℕ) → 0 < n → shifted_length above
 shifted_length-positive above zero h = absurd (omega arith)
 shifted_length-positive above (suc n) h = refl
 
--- a lift over tables with the range goes through its degrees
-pub reaches : (table sphere : Staircase) (range : Range) → IsThrough range table.rows → IsThrough range sphere.rows → (s above upto at : ℕ) → s + upto ≤ range.s → at ≤ range.t → at < degrees_through table sphere s above upto
-reaches table sphere range whole whole_q s above upto at rows small =
-    let long = whole_q upto (omega arith) in
-    let e = shifted_length-positive above (length (row_in sphere.rows upto)) (omega arith) in
-    omega (arith, whole (s + upto) rows)
-
 pub on_square_of : (table sphere : Staircase) → IsSphere (resolution_of sphere) → (a x : Place) (n : ℕ) (v : List (List (List Bool))) → AreValues table sphere x.s (bottom_of table.resolved +ℤ pos x.above) n a.s v → a.above + x.above < n → a.above + x.above < length (row_in table.rows (x.s + a.s)) → AreOnSquare table sphere a (x.s + a.s) (a.above + x.above) (joined v)
 on_square_of table sphere is_sphere a x n v values far there =
     let r = resolution_of table in

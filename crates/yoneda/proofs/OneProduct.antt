@@ -18,7 +18,7 @@ use Rattle.chain_map.specs.Lifting.{LiftValues, no_lift, resolution_of, AreCanon
 use Rattle.chain_map.specs.Classes.{through, IsAt}
 use Rattle.chain_map.proofs.Resolved.{is_canonical}
 use Rattle.yoneda.specs.Products.{class_above, IsPlaceOf, IsThere, IsGivenBy, IsYonedaProduct, IsProductThrough, IsProductOver, ArePlacesOf, AreProducts}
-use Rattle.yoneda.proofs.Lifted.{HasRow, has_row, reaches}
+use Rattle.yoneda.proofs.Lifted.{HasRow, has_row}
 use Rattle.yoneda.proofs.Through.{count_through, product_through, class_through}
 
 pub place_there : (sphere : Staircase) (range : Range) (class : Named) (a : Place) → IsThrough range sphere.rows → IsPlaceOf sphere range class a → IsThere sphere a
@@ -90,25 +90,13 @@ module _ (one : LiftsGiveOneProduct) (modules : ModulesAreSteenrodModules) (tabl
       product_of_lift one modules table sphere h hq is_sphere a x a_there v a.s (a.above + 1) lift (omega arith) lifted
       (record { within = omega arith; some = λ m. omega arith; there = omega arith; enough = omega arith }) gives near far near_whole far_whole row degree a_row (omega arith) are are_q
 
-module _ (one : LiftsGiveOneProduct) (modules : ModulesAreSteenrodModules)
-    (table sphere : Staircase) (h : IsTable table) (hq : IsTable sphere) (range : Range) (whole : IsThrough range table.rows) (whole_q : IsThrough range sphere.rows) (is_sphere : IsSphere (resolution_of sphere))
-    (a_class x_class : Named) (a x : Place) (places : ArePlacesOf table sphere range a_class x_class a x) (upto : ℕ) (enough : a.s ≤ upto) (rows : x.s + upto ≤ range.s)
-    (lift : LiftValues) (lifted : IsLiftOver table sphere x.s x.above x.i upto lift) (v : List Bool) (gives : v ≡ product_by (resolution_of table) (resolution_of sphere) (class_above a) (map_of lift) (x.s + a.s) (a.above + x.above)) where
-  is_product : IsCanonicalIn range table → IsCanonicalIn range sphere → IsYonedaProduct (through range table) (through range sphere) (class_above a) (class_above x) v
-  is_product all all_q =
-      let small = places.degree_within in
-      let there = whole_q upto (omega arith) in
-      let far = reaches table sphere range whole whole_q x.s x.above upto (a.above + x.above) rows small in
-      product_of_lift one modules table sphere h hq is_sphere a x (place_there sphere range a_class a whole_q places.a_is) v upto (range.t + 1) lift enough lifted
-      (record { within = omega arith; some = λ m. omega arith; there = omega arith; enough = omega arith }) gives range range whole whole_q rows small (omega arith) (omega arith) all all_q
-
-  pub product_by_lift : IsProductOver table sphere range a_class x_class v
-  product_by_lift = record {
+  pub product_by_lift : (a_class x_class : Named) → ArePlacesOf table sphere range a_class x_class a x → IsProductOver table sphere range a_class x_class v
+  product_by_lift a_class x_class places = record {
     a_place = a;
     x_place = x;
     places = places;
     one_each = ap length gives ∙ length-map-range_with_len (λ j. coefficient_of (resolution_of sphere) (class_above a) (map_of lift a.s (first_of (resolution_of table) (x.s + a.s) (a.above + x.above) + j))) 0 (count_of (resolution_of table) (x.s + a.s) (a.above + x.above));
-    product = is_product;
+    product = product_of;
   }
 
 -- ---- the products that a call made

@@ -87,15 +87,14 @@ pub record ArePlacesOf (table sphere : Staircase) (range : Range) (a x : Class) 
   pub row_within : a_place.s + x_place.s ≤ range.s
   pub degree_within : a_place.above + x_place.above ≤ range.t
 
--- The vector has a coordinate for each generator of the square, and where the tables are those of the canonical resolutions through
--- the range, it is the product.
+-- The vector has a coordinate for each generator of the square, and it is the product, where the squares that it takes are those of the
+-- canonical resolutions.
 pub record IsProductOver (table sphere : Staircase) (range : Range) (a x : Class) (v : List Bool) : Type 0 where
   pub a_place : Place
   pub x_place : Place
   pub places : ArePlacesOf table sphere range a x a_place x_place
   pub one_each : length v ≡ count_of (resolution_of table) (x_place.s + a_place.s) (a_place.above + x_place.above)
-  pub product : IsCanonicalIn range table → IsCanonicalIn range sphere →
-      IsYonedaProduct (through range table) (through range sphere) (class_above a_place) (class_above x_place) v
+  pub product : IsProductThrough table sphere (class_above a_place) (class_above x_place) v
 
 -- the rows are the products of a with the classes of the square `above` above the bottom in row s, in their order
 abbrev pub AreProducts : Staircase → Staircase → Place → ℕ → ℕ → List (List Bool) → Type 0
