@@ -39,6 +39,7 @@ pub(crate) fn read_board<R: Wait + Clock, T: Counted>(
     requires done { AreDone T.words board.now.name (events_of pass.old.seen) view.old }
     ensures pass { IsPassOf board.now pass.new }
     ensures same { IsSamePass pass.old pass.new }
+    ensures own { pass.new.own ≡ pass.old.own }
     ensures seen { IsPrefix pass.old.seen pass.new.seen }
     ensures read { HasRead T.words T.table_of board.now.name (events_of pass.old.seen) (events_of pass.new.seen) view.old
         view.new }
@@ -66,6 +67,7 @@ fn read_row<R: Wait + Clock, T: Counted>(
     requires degrees { t ≤ MAX_T }
     ensures pass { IsPassOf board.now pass.new }
     ensures same { IsSamePass pass.old pass.new }
+    ensures own { pass.new.own ≡ pass.old.own }
     ensures seen { IsPrefix pass.old.seen pass.new.seen }
     ensures read { HasReadRow T.words T.table_of board.now.name (events_of pass.old.seen) (events_of pass.new.seen)
         view.old view.new s t }
@@ -98,6 +100,7 @@ fn count_at<R: Wait + Clock, T: Counted>(
     requires done { above < front }
     ensures pass { IsPassOf board.now pass.new }
     ensures same { IsSamePass pass.old pass.new }
+    ensures own { pass.new.own ≡ pass.old.own }
     ensures seen { IsPrefix pass.old.seen pass.new.seen }
     ensures told { pass.new.told ≡ pass.old.told }
     ensures front { front ≤ front_after T.words board.now.name (events_of pass.new.seen) s }

@@ -130,7 +130,7 @@ fn seat_at(flushed: &mut Flushed) -> Option<Seat>
 }
 
 /// Publishes a view of the board, all at once, and gives a note of it. It has each square of the range that was done after what
-/// the pass had seen, and only squares that are done after what the pass has seen now.
+/// the pass had seen, and only squares that are done after what the pass has seen now. It looks at the board alone, and makes no entry.
 ///
 /// # Errors
 /// `Memory` if allocation fails; then nothing is published, and the reader sees what it would have seen.
@@ -144,6 +144,7 @@ pub fn publish<R: Wait + Clock, T: Counted>(
     requires { MayPublish T.words T.table_of board.now pass.old writer.old }
     ensures may { MayPublish T.words T.table_of board.now pass.new writer.new }
     ensures same { IsSamePass pass.old pass.new }
+    ensures own { pass.new.own ≡ pass.old.own }
     ensures seen { IsPrefix pass.old.seen pass.new.seen }
     ensures writer { writer.new ≡ with_known writer.old writer.new.known }
     ensures published { IfOk result (λ note. HasPublished T.words T.table_of board.now.name

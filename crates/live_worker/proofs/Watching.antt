@@ -15,10 +15,11 @@ use Rattle.live_worker.proofs.Telling.{told_none, told_twice}
 
 module _ {T O I M E : Type 0} (words : StockWords T O I M) (table_of : O → Staircase) (written : E → Option (List ℕ)) (faults : E → ℕ) (board : TurnId (Opening T)) where
   -- it may watch on if it may publish and its reader is its writer's still
-  pub watched : (old new : Watcher T E O I M) → CanWatch words table_of board old → MayPublish words table_of board new.pass new.writer → IsSamePass old.pass new.pass → new.writer.known.book ≡ old.writer.known.book → new.reader.known.book ≡ old.reader.known.book → new.reader.range ≡ old.reader.range → HasTold written faults old.reports new.reports → HasWatched words table_of written faults board old new
-  watched old new can may same writer reader range told = record {
+  pub watched : (old new : Watcher T E O I M) → CanWatch words table_of board old → MayPublish words table_of board new.pass new.writer → IsSamePass old.pass new.pass → new.pass.own ≡ old.pass.own → new.writer.known.book ≡ old.writer.known.book → new.reader.known.book ≡ old.reader.known.book → new.reader.range ≡ old.reader.range → HasTold written faults old.reports new.reports → HasWatched words table_of written faults board old new
+  watched old new can may same own writer reader range told = record {
     can = record {
       may = may;
+      none = own ∙ can.none;
       reader = reader ∙ (can.reader ∙ sym writer);
       range = range ∙ can.range;
       all = told.all ∙ can.all;
@@ -39,9 +40,10 @@ module _ {T O I M E : Type 0} (words : StockWords T O I M) (table_of : O → Sta
   }
 
 -- a watcher whose pass took in another may watch still
-pub can_after_join : {T O I M E : Type 0} (words : StockWords T O I M) (table_of : O → Staircase) (board : TurnId (Opening T)) (old new : Watcher T E O I M) → CanWatch words table_of board old → IsPassOf board new.pass → Goes old.pass new.pass.seen → new.writer ≡ old.writer → new.reader ≡ old.reader → new.reports ≡ old.reports → CanWatch words table_of board new
-can_after_join {E} words table_of board old new can pass goes writer reader reports = record {
+pub can_after_join : {T O I M E : Type 0} (words : StockWords T O I M) (table_of : O → Staircase) (board : TurnId (Opening T)) (old new : Watcher T E O I M) → CanWatch words table_of board old → IsPassOf board new.pass → new.pass.own ≡ old.pass.own → Goes old.pass new.pass.seen → new.writer ≡ old.writer → new.reader ≡ old.reader → new.reports ≡ old.reports → CanWatch words table_of board new
+can_after_join {E} words table_of board old new can pass own goes writer reader reports = record {
   may = may_still words table_of board old.pass new.pass old.writer new.writer can.may pass goes.seen writer;
+  none = own ∙ can.none;
   reader = ap (λ (r : LiveState). r.known.book) reader ∙ (can.reader ∙ sym (ap (λ (w : LiveState). w.known.book) writer));
   range = ap (λ (r : LiveState). r.range) reader ∙ can.range;
   all = ap (λ (r : Reports E). r.all) reports ∙ can.all;

@@ -1,11 +1,11 @@
 //! The roles of the passes of a board, and the passes joined again.
-ghost use Rattle.std.specs.Prelude.{◌≡◌, ◌-◌, ◌<◌, ◌≤◌, [], length, vec_capacity};
+ghost use Rattle.std.specs.Prelude.{◌≡◌, ◌-◌, ◌<◌, ◌≤◌, [], All, length, vec_capacity};
 ghost use Rattle.bidegree.specs.declared.shape.Shape.TheVariants.{Rectangle};
 ghost use Rattle.turn_lock.specs.Turns.{HasAll};
 ghost use Rattle.square_board.specs.Workers.{AreItsPasses};
 ghost use Rattle.square_board.specs.Openings.{bottom_of, shape_of, subject_of};
 ghost use Rattle.live_worker.specs.Reports.{squares_of};
-ghost use Rattle.live_worker.specs.Inside.Roles.{CanWatch, AreRoles, HasTold};
+ghost use Rattle.live_worker.specs.Inside.Roles.{CanWatch, AreRoles, HasGathered, HasTold};
 
 use crate::reports::Reports;
 use crate::role::{Role, Watcher};
@@ -25,6 +25,7 @@ pub(crate) fn fill<T: Counted, E: Sink>(
 )
     requires some { 0 < length passes.items }
     requires passes { AreItsPasses board.now passes.items }
+    requires fresh { All (λ pass. pass.own ≡ []) passes.items }
     requires empty { roles.old.items ≡ [] }
     requires room { length passes.items ≤ vec_capacity roles.old }
     requires whole { shape_of T.words board.now.name ≡ Rectangle }
@@ -67,6 +68,7 @@ pub(crate) fn gathered<T: Counted, E: Sink>(
         roles.items }
     ensures can { CanWatch T.words T.table_of board.now result }
     ensures all { HasAll result.pass }
+    ensures gathered { HasGathered board.now.passes result.pass }
     ensures told { HasTold E.written E.faults first.now.value result.reports }
 {
     let _ = first;

@@ -1,8 +1,10 @@
 //! Images made by several workers, with reports of how far they are.
 ghost use Rattle.std.specs.Prelude.{◌≡◌, ◌<◌, ◌≤◌, IfOk};
 ghost use Rattle.bidegree.specs.declared.range.TheConstants.{MAX_S, MAX_T};
+ghost use Rattle.bidegree.specs.declared.shape.Shape.TheVariants.{Rectangle};
 ghost use Rattle.square.specs.Squares.{over};
 ghost use Rattle.resolution_images.specs.BareRows.{AreOfCanonical};
+ghost use Rattle.image_worker.specs.Worked.{AreImagesBy};
 ghost use Rattle.live_worker.specs.Reports.{squares_of, HasReported};
 
 use crate::making::made_live;
@@ -37,6 +39,7 @@ pub fn images_live<R: Threads + Wait + Clock + Sync, G: Gate + Sync, E: Sink + S
     requires degrees { range.t ≤ MAX_T }
     ensures resolved { IfOk result.0 (λ images. images.resolved ≡ resolved) }
     ensures canonical { IfOk result.0 (λ images. AreOfCanonical (over resolved) range.s range.t images.rows) }
+    ensures worked { IfOk result.0 (λ images. AreImagesBy workers resolved range Rectangle images.rows) }
     ensures reported { HasReported (squares_of range) result.0 result.1 (E.written err.old) (E.written err.new)
         (E.faults err.old) (E.faults err.new) }
 {
@@ -44,10 +47,7 @@ pub fn images_live<R: Threads + Wait + Clock + Sync, G: Gate + Sync, E: Sink + S
         Ok(stock) => stock,
         Err(Memory) => return (Err(Memory), Ok(())),
     };
-    let (made, last, told) = match made_live(wait, alloc, workers, stock, range, gate, err) {
-        Ok(done) => done,
-        Err(_) => return (Err(Memory), Ok(())),
-    };
+    let (made, last, told) = made_live(wait, alloc, workers, stock, range, gate, err);
     match made {
         Ok(()) => (Ok(last.into_images()), told),
         // Images are kept nowhere, so that nothing but memory can fail.

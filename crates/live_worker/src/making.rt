@@ -1,12 +1,12 @@
 //! A range made by several workers at a board, with reports of how far it is.
-ghost use Rattle.std.specs.Prelude.{◌≡◌, ◌<◌, ◌≤◌, true, false, OnOk, OnErr, IfOk, IfErr};
+ghost use Rattle.std.specs.Prelude.{◌≡◌, ◌<◌, ◌≤◌, true, false, OnOk, OnErr};
 ghost use Rattle.bidegree.specs.declared.range.TheConstants.{MAX_S, MAX_T};
 ghost use Rattle.bidegree.specs.declared.shape.Shape.TheVariants.{Rectangle};
-ghost use Rattle.square_board.specs.Workers.{HasMade};
+ghost use Rattle.square_board.specs.Workers.{HasMadeBy};
 ghost use Rattle.turn_lock.specs.Turns.{HasAll};
 ghost use Rattle.live_worker.specs.Reports.{squares_of, HasReported};
 ghost use Rattle.live_worker.specs.Inside.Opened.{IsMadeOrMemory};
-ghost use Rattle.live_worker.specs.Inside.Roles.{CanWatch, HasTold};
+ghost use Rattle.live_worker.specs.Inside.Roles.{CanWatch, HasGathered, HasTold};
 
 use crate::gathering::{fill, gathered};
 use crate::opening::{Opened, prepared};
@@ -20,7 +20,7 @@ use core::mem::replace_with;
 use edge::{Failed, Sink};
 use live_view::{Counted, close};
 use memory::Memory;
-use square_board::{Board, Gate, Stock, conclude};
+use square_board::{Board, Gate, Stock, conclude, no_board};
 use std::alloc::Global;
 use std::snapshot::Snapshot;
 use std::sync::Wait;
@@ -47,35 +47,22 @@ pub(crate) type Made<T> = (Result<(), Cause>, T, Result<(), Failed>);
 /// it since.
 ///
 /// The first of what it gives is the cause why not all squares are there: `Failed` if one could not be kept, `Memory` if there is no
-/// memory for a square, or for the line of the last report. The squares that were given are there.
-///
-/// # Errors
-/// The stock, if there is no memory for the board. Then nothing was made, and nothing reported.
+/// memory for the board, for a square, or for the line of the last report. The squares that were given are there.
 pub(crate) fn made_live<
     R: Threads + Wait + Clock + Sync,
     T: Counted + Send,
     G: Gate + Sync,
     E: Sink + Send,
->(
-    wait: &R,
-    alloc: Global,
-    workers: usize,
-    stock: T,
-    range: Range,
-    gate: &G,
-    err: &mut E,
-) -> Result<Made<T>, T>
+>(wait: &R, alloc: Global, workers: usize, stock: T, range: Range, gate: &G, err: &mut E) -> Made<T>
     requires some { 0 < workers }
     requires rows { range.s ≤ MAX_S }
     requires degrees { range.t ≤ MAX_T }
     requires whole { T.words.shape (T.words.subject stock) ≡ Rectangle }
     requires reached { T.words.reaches (T.words.subject stock) range }
     requires takes { T.words.takes stock }
-    ensures made { IfOk result (λ m. HasMade T.words stock range m.0 m.1) }
-    ensures reported { IfOk result (λ m. HasReported (squares_of range) m.0 m.2 (E.written err.old) (E.written err.new)
-        (E.faults err.old) (E.faults err.new)) }
-    ensures refused { IfErr result (λ back. back ≡ stock) }
-    ensures unreported { OnErr result (err.new ≡ err.old) }
+    ensures made { HasMadeBy T.words workers stock range result.0 result.1 }
+    ensures reported { HasReported (squares_of range) result.0 result.2 (E.written err.old) (E.written err.new)
+        (E.faults err.old) (E.faults err.new) }
 {
     let task = Task {
         wait,
@@ -95,11 +82,10 @@ pub(crate) fn made_live<
             requires whole { T.words.shape (T.words.subject task.stock) ≡ Rectangle }
             requires reached { T.words.reaches (T.words.subject task.stock) task.range }
             requires takes { T.words.takes task.stock }
-            ensures made { IfOk result.1 (λ m. HasMade T.words task.entry.stock task.entry.range m.0 m.1) }
-            ensures reported { IfOk result.1 (λ m. HasReported (squares_of task.entry.range) m.0 m.2 (E.written err)
-                (E.written result.0) (E.faults err) (E.faults result.0)) }
-            ensures refused { IfErr result.1 (λ back. back ≡ task.entry.stock) }
-            ensures unreported { OnErr result.1 (result.0 ≡ err) }
+            ensures made { HasMadeBy T.words task.entry.workers task.entry.stock task.entry.range result.1.0
+                result.1.1 }
+            ensures reported { HasReported (squares_of task.entry.range) result.1.0 result.1.2 (E.written err)
+                (E.written result.0) (E.faults err) (E.faults result.0) }
         { made_telling(err, task) },
     )
 }
@@ -110,18 +96,16 @@ fn made_telling<
     T: Counted + Send,
     G: Gate + Sync,
     E: Sink + Send,
->(err: E, task: Task<'_, R, T, G>) -> (E, Result<Made<T>, T>)
+>(err: E, task: Task<'_, R, T, G>) -> (E, Made<T>)
     requires some { 0 < task.workers }
     requires rows { task.range.s ≤ MAX_S }
     requires degrees { task.range.t ≤ MAX_T }
     requires whole { T.words.shape (T.words.subject task.stock) ≡ Rectangle }
     requires reached { T.words.reaches (T.words.subject task.stock) task.range }
     requires takes { T.words.takes task.stock }
-    ensures made { IfOk result.1 (λ m. HasMade T.words task.entry.stock task.entry.range m.0 m.1) }
-    ensures reported { IfOk result.1 (λ m. HasReported (squares_of task.entry.range) m.0 m.2 (E.written err)
-        (E.written result.0) (E.faults err) (E.faults result.0)) }
-    ensures refused { IfErr result.1 (λ back. back ≡ task.entry.stock) }
-    ensures unreported { OnErr result.1 (result.0 ≡ err) }
+    ensures made { HasMadeBy T.words task.entry.workers task.entry.stock task.entry.range result.1.0 result.1.1 }
+    ensures reported { HasReported (squares_of task.entry.range) result.1.0 result.1.2 (E.written err)
+        (E.written result.0) (E.faults err) (E.faults result.0) }
 {
     let Task {
         wait,
@@ -139,7 +123,10 @@ fn made_telling<
         mut roles,
     } = match prepared(wait, alloc, workers, stock, range) {
         Ok(opened) => opened,
-        Err(stock) => return (err, Err(stock)),
+        Err(stock) => {
+            no_board(&stock, range);
+            return (err, (Err(Cause::Memory), stock, Ok(())));
+        }
     };
     let reports = Reports {
         err,
@@ -152,8 +139,7 @@ fn made_telling<
     let working = AtomicU64::new(workers as u64);
     run_roles(wait, alloc, &board, roles.as_mut_slice(), gate, &working);
     let watcher = gathered(&board, roles, &first);
-    let (err, made) = concluded(wait, alloc, board, watcher, range);
-    (err, Ok(made))
+    concluded(wait, alloc, board, watcher, range)
 }
 
 /// How many squares the range has.
@@ -173,8 +159,9 @@ fn concluded<R: Wait + Clock, T: Counted, E: Sink>(
 ) -> (E, Made<T>)
     requires can { CanWatch T.words T.table_of board watcher }
     requires joined { HasAll watcher.pass }
+    requires gathered { HasGathered board.passes watcher.pass }
     requires range { board.name.range ≡ range }
-    ensures made { HasMade T.words board.name.first.value range result.1.0 result.1.1 }
+    ensures made { HasMadeBy T.words watcher.pass.number board.name.first.value range result.1.0 result.1.1 }
     ensures told { (start : Reports E) → start.most ≡ 0 → start.failed ≡ false → start.all ≡ squares_of range →
         HasTold E.written E.faults start watcher.reports →
         HasReported (squares_of range) result.1.0 result.1.2 (E.written start.err) (E.written result.0)

@@ -1,9 +1,10 @@
 //! A range resolved by several workers, with reports of how far it is.
-ghost use Rattle.std.specs.Prelude.{◌<◌, ◌≤◌};
+ghost use Rattle.std.specs.Prelude.{◌<◌, ◌≤◌, OnErr};
 ghost use Rattle.bidegree.specs.declared.range.TheConstants.{MAX_S, MAX_T};
 ghost use Rattle.board_core.specs.declared.event.Cause as Cause;
 ghost use Rattle.resolution_step.specs.Alone.{AreApart, IsUntouched, HasResolved};
 ghost use Rattle.square.specs.Keeping.{IsKeeperOf};
+ghost use Rattle.square_worker.specs.Worked.{HasResolvedBy};
 ghost use Rattle.live_worker.specs.Reports.{squares_of, HasReported};
 
 use crate::making::made_live;
@@ -21,7 +22,7 @@ use std::time::Clock;
 /// The table with each square of the range, as `resolve_with` makes it, by so many workers. Meanwhile a watcher in a thread of
 /// its own reports on `err` how many squares of the range are finished, each time that it finds more: some ten times a second at
 /// most. The last report comes when the workers have ended. The last of what it gives says whether `err` failed; then nothing was
-/// written to it since.
+/// written to it since. The watcher makes no entry of the history.
 ///
 /// # Errors
 /// `Failed` if the keeper failed; it is then no longer live. `Memory` if there is no memory for the board, a square, or the line of
@@ -49,18 +50,12 @@ pub fn resolve_live<
     ensures resolved { HasResolved Cause.Failed Cause.Memory AreApart range table result.0 (K.telling keeper)
         (K.telling result.1) }
     ensures untouched { IsUntouched K.telling keeper result.1 }
+    ensures worked { HasResolvedBy K.telling workers range table (OnErr result.0 ⊥) keeper result.1 }
     ensures reported { HasReported (squares_of range) result.0 result.2 (E.written err.old) (E.written err.new)
         (E.faults err.old) (E.faults err.new) }
 {
     let first = Kept { table, keeper };
-    match made_live(wait, alloc, workers, first, range, gate, err) {
-        Ok((made, last, told)) => {
-            let (table, keeper) = outcome(made, last);
-            (table, keeper, told)
-        }
-        Err(back) => {
-            let Kept { table: _, keeper } = back;
-            (Err(Cause::Memory), keeper, Ok(()))
-        }
-    }
+    let (made, last, told) = made_live(wait, alloc, workers, first, range, gate, err);
+    let (table, keeper) = outcome(made, last);
+    (table, keeper, told)
 }

@@ -89,7 +89,7 @@ module _ {T O I M : Type 0} (w : StockWords T O I M) where
 -- ---- the history
 
 -- the entries of a number, in the whole history
-entries_of : {T : Type 0} (pass : PassState (Opening T) Event) (history : List Event) → Continues pass (numbered history) → (i : ℕ) → (own : List Event) → ((pass.number ≡ i) × (pass.own ≡ own)) ⊎ Contains pass.joined (i, own) → events_by i history ≡ own
+pub entries_of : {T : Type 0} (pass : PassState (Opening T) Event) (history : List Event) → Continues pass (numbered history) → (i : ℕ) → (own : List Event) → ((pass.number ≡ i) × (pass.own ≡ own)) ⊎ Contains pass.joined (i, own) → events_by i history ≡ own
 entries_of {T} pass history continues i own has =
     let here : entries_by i (numbered history) ≡ own = elim has [
       | inl mine ↦ ap (λ (n : ℕ). entries_by n (numbered history)) (sym mine.0) ∙ (continues.own ∙ mine.1)

@@ -23,4 +23,4 @@ pub use joining::join_all;
 pub use opening::Opening;
 pub use stock::Stock;
 pub use worker::{WorkEnd, work};
-pub use workers::{conclude, made_by};
+pub use workers::{conclude, made_by, no_board};

@@ -6,7 +6,7 @@ ghost use Rattle.board_core.specs.Entries.{ArePairs};
 ghost use Rattle.board_core.specs.Laws.{first_cause};
 ghost use Rattle.turn_lock.specs.Turns.{HasAll};
 ghost use Rattle.square_board.specs.Boards.{IsPassOf};
-ghost use Rattle.square_board.specs.Workers.{AreItsPasses, IsWhy, HasMade, HasMadeBy, HasConcluded};
+ghost use Rattle.square_board.specs.Workers.{AreItsPasses, IsWhy, HasMadeBy, HasConcluded};
 
 use crate::board::{Board, BoardPass};
 use crate::gate::Gate;
@@ -53,7 +53,7 @@ pub fn made_by<R: Threads + Wait + Clock + Sync, T: Stock + Send, G: Gate + Sync
     };
     work_in_threads(wait, alloc, &board, passes.as_mut_slice(), gate);
     let pass = join_all(&board, passes);
-    ended(board, pass, range)
+    conclude(board, pass, range)
 }
 
 /// Each of these passes, which are all those of the board, works in a thread of its own.
@@ -87,7 +87,7 @@ fn work_in_threads<R: Threads + Wait + Clock + Sync, T: Stock + Send, G: Gate + 
 }
 
 /// Ends a board with the pass that all others were joined into. It gives the stock, and why not all squares of the range are
-/// there.
+/// there. The history has just the entries of these passes.
 ///
 /// # Errors
 /// The cause that stands, or `Memory` if none does. Then every worker stopped for lack of memory before it had a square.
@@ -96,19 +96,6 @@ pub fn conclude<T: Stock>(
     pass: BoardPass<T>,
     range: Range,
 ) -> (Result<(), Cause>, T)
-    requires pass { IsPassOf board pass }
-    requires joined { HasAll pass }
-    requires range { board.name.range ≡ range }
-    ensures { HasMade T.words board.name.first.value range result.0 result.1 }
-{
-    ended(board, pass, range)
-}
-
-/// The same, with what is known of the history by the pass.
-///
-/// # Errors
-/// The cause that stands, or `Memory` if none does.
-fn ended<T: Stock>(board: Board<T>, pass: BoardPass<T>, range: Range) -> (Result<(), Cause>, T)
     requires pass { IsPassOf board pass }
     requires joined { HasAll pass }
     requires range { board.name.range ≡ range }
@@ -137,7 +124,7 @@ fn outcome<T: Stock>(stock: &T, range: Range, history: &[Entry]) -> Result<(), C
 
 /// Where there is no memory for a board, the stock is made through the range by a history of no event: these calls say that the
 /// stock may be one of a board.
-fn no_board<T: Stock>(stock: &T, range: Range)
+pub fn no_board<T: Stock>(stock: &T, range: Range)
     requires rows { range.s ≤ MAX_S }
     requires degrees { range.t ≤ MAX_T }
     requires reached { T.words.reaches (T.words.subject stock.now) range }

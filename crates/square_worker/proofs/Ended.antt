@@ -1,7 +1,7 @@
 -- What a table and its keeper came to, in the words of a call that resolves a range.
 use Rattle.std.proofs.Common.{◌≡◌, ◌≢◌, ℕ, ◌<◌, ◌≤◌, ℤ, pos, ◌+ℤ◌, Bool, true, false, List, [], ◌++◌, length, get_or, Some, None, Result, Ok, Err, IfErr, sym, ◌∙◌, ap, ap₂, subst, refl, arith, inl, inr}
 use Rattle.std.specs.List.{All, AllPairs}
-use Rattle.std.specs.Result.{OnOk}
+use Rattle.std.specs.Result.{OnOk, OnErr}
 use Rattle.std.proofs.Math.ListN.{get_or-map}
 use Rattle.std.proofs.lemmas.List.{length-map, length-append, nil_from_length}
 use Rattle.bidegree.specs.declared.range.Range.{Range}
@@ -185,9 +185,9 @@ module _ {K : Type 0} (telling : K → Keeper) (first last : KeptTable K) (range
       (untouched telling made.opening.first.value last made.history (gone_at telling made.opening last made.history made.desk settled_then live_then))
 
 -- what so many workers did
-pub made_worked : {K : Type 0} (telling : K → Keeper) (workers : ℕ) (first last : KeptTable K) (range : Range) (result : Result (Unit {0}) Cause) → HasMadeBy (kept_words telling) workers first range result last → IsSettled (telling first.keeper) → HasResolvedBy telling workers range first.table first.keeper last.keeper
-made_worked {K} telling workers first last range result by settled =
+pub made_worked : {K : Type 0} (telling : K → Keeper) (workers : ℕ) (first last : KeptTable K) (range : Range) (result : Result (Unit {0}) Cause) (had_answer : Type 0) → (had_answer → OnErr result ⊥) → HasMadeBy (kept_words telling) workers first range result last → IsSettled (telling first.keeper) → HasResolvedBy telling workers range first.table had_answer first.keeper last.keeper
+made_worked {K} telling workers first last range result had_answer answered by settled =
     let made = by.made in
     let gone : HasGoneBy telling first last made.history =
     gone_by telling first last made.history settled (subst (λ (x : KeptTable K). IsGone (kept_words telling) x made.history last) made.opened.first_is made.desk.gone) in
-    record { result = result; last = last; keeper_is = refl; worked = by; given = gone.squares; places_are = gone.places_are; kept = gone.kept }
+    record { result = result; answered = answered; last = last; keeper_is = refl; worked = by; given = gone.squares; places_are = gone.places_are; kept = gone.kept }

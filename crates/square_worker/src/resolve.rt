@@ -1,9 +1,9 @@
 //! A range resolved by several workers.
-ghost use Rattle.std.specs.Prelude.{ℕ, ◌<◌, ◌≤◌, OnOk, OnErr};
+ghost use Rattle.std.specs.Prelude.{ℕ, ◌<◌, ◌≤◌, IfSome, OnOk, OnErr};
 ghost use Rattle.bidegree.specs.declared.range.TheConstants.{MAX_S, MAX_T};
 ghost use Rattle.board_core.specs.declared.event.Cause as Cause;
 ghost use Rattle.resolution_step.specs.Alone.{AreApart, IsUntouched, HasResolved};
-ghost use Rattle.square.specs.Keeping.{IsKeeperOf};
+ghost use Rattle.square.specs.Keeping.{HoldsTable, IsKeeperOf};
 ghost use Rattle.square_board.specs.Workers.{HasMade, HasMadeBy};
 ghost use Rattle.square_worker.specs.Kept.{KeptTable, kept_words};
 ghost use Rattle.square_worker.specs.Worked.{HasResolvedBy};
@@ -43,7 +43,7 @@ pub fn resolve_with<R: Threads + Wait + Clock + Sync, K: Keep + Send, G: Gate + 
     ensures resolved { HasResolved Cause.Failed Cause.Memory AreApart range table result.0 (K.telling keeper)
         (K.telling result.1) }
     ensures untouched { IsUntouched K.telling keeper result.1 }
-    ensures worked { HasResolvedBy K.telling workers range table keeper result.1 }
+    ensures worked { HasResolvedBy K.telling workers range table (OnErr result.0 ⊥) keeper result.1 }
 {
     let first = Kept { table, keeper };
     let (made, last) = made_by(wait, alloc, workers, first, range, gate);
@@ -63,8 +63,9 @@ pub fn outcome<K: Keep>(made: Result<(), Cause>, last: Kept<K>) -> (Result<Table
         HasMade (kept_words K.telling) first range made last → IsUntouched K.telling first.keeper result.1 }
     ensures worked { (workers : ℕ) (first : KeptTable K) (range : Range) → (K.telling first.keeper).live →
         HasMadeBy (kept_words K.telling) workers first range made last →
-        HasResolvedBy K.telling workers range first.table first.keeper result.1 }
+        HasResolvedBy K.telling workers range first.table (OnErr result.0 ⊥) first.keeper result.1 }
     ensures only { OnOk result.0 (OnErr made ⊥) }
+    ensures holds { IfSome (K.telling result.1).kept (λ list. HoldsTable list last.table.rows) }
 {
     let Kept { table, keeper } = last;
     let _front = table.front(0);

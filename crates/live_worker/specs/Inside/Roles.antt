@@ -1,14 +1,15 @@
 -- Roles at a board: what each asks for, and what is so of it when it has ended.
-use Rattle.std.specs.Prelude.{◌≡◌, ◌⊎◌, ℕ, ◌-◌, ◌<◌, ◌≤◌, true, false, List, length, slice_index_or, Option}
+use Rattle.std.specs.Prelude.{◌≡◌, ◌⊎◌, ℕ, suc, ◌-◌, ◌<◌, ◌≤◌, true, false, List, [], length, slice_index_or, Option}
 use Rattle.edge.specs.Faults.{HasRisen}
 use Rattle.edge.specs.Sink.{with_more, HasPrefixMore}
 use Rattle.square.specs.Tables.{Staircase}
+use Rattle.board_core.specs.declared.event.Entry.{Entry as Event}
 use Rattle.board_core.specs.Entries.{HasNoneOut, ArePairs}
-use Rattle.turn_lock.specs.Turns.{TurnId}
+use Rattle.turn_lock.specs.Turns.{TurnId, PassState}
 use Rattle.square_board.specs.declared.opening.Opening.{Opening}
 use Rattle.square_board.specs.Stocks.{StockWords}
 use Rattle.square_board.specs.Boards.{IsPassOf, IsSamePass}
-use Rattle.square_board.specs.Workers.{HasWorked}
+use Rattle.square_board.specs.Workers.{HasWorked, HasPairs}
 use Rattle.live_view.specs.Publishing.{MayPublish}
 use Rattle.live_worker.specs.Reports.{squares_of}
 use Rattle.live_worker.specs.Reports.{live_lines, RiseTo}
@@ -33,9 +34,11 @@ module _ {E : Type 0} (written : E → Option (List ℕ)) (faults : E → ℕ) w
     pub after_fault : old.failed ≡ true → new ≡ old
 
 module _ {T O I M E : Type 0} (words : StockWords T O I M) (table_of : O → Staircase) where
-  -- The watcher may publish what is done of the board; its reader is that of its writer, and it reports of all squares of the range.
+  -- The watcher may publish what is done of the board, at which it made no entry; its reader is that of its writer, and it reports of all
+  -- squares of the range.
   pub record CanWatch (board : TurnId (Opening T)) (w : Watcher T E O I M) : Type 0 where
     pub may : MayPublish words table_of board w.pass w.writer
+    pub none : w.pass.own ≡ []
     pub reader : w.reader.known.book ≡ w.writer.known.book
     pub range : w.reader.range ≡ board.name.range
     pub all : w.reports.all ≡ squares_of board.name.range
@@ -76,3 +79,9 @@ module _ {T O I M E : Type 0} (words : StockWords T O I M) (table_of : O → Sta
   abbrev pub AreRolesDown : Reports E → TurnId (Opening T) → ℕ → List (Role T E O I M) → Type 0
   AreRolesDown first board n roles =
       (k : ℕ) (d : Role T E O I M) → k < length roles → IsRoleAt first board (n - k) n (slice_index_or roles k d)
+
+-- The pass is the last of so many. It made no entry, and all others, which made pairs, were joined into it.
+pub record HasGathered {T : Type 0} (passes : ℕ) (pass : PassState (Opening T) Event) : Type 0 where
+  pub last : suc pass.number ≡ passes
+  pub none : pass.own ≡ []
+  pub pairs : HasPairs pass.number pass

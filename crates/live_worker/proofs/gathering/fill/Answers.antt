@@ -1,4 +1,5 @@
-use Rattle.std.proofs.Common.{◌≡◌, ℕ, ◌+◌, ◌-◌, List, [], ◌∷◌, ◌++◌, length, Option, sym, ◌∙◌, ap, subst, arith, length-append}
+use Rattle.std.proofs.Common.{◌≡◌, ℕ, ◌+◌, ◌-◌, List, [], ◌∷◌, ◌++◌, length, get_or, Option, sym, ◌∙◌, ap, subst, arith, length-append}
+use Rattle.std.proofs.Math.Seq.{get_or-append_seam}
 use Rattle.std.specs.Option.{option_to_list}
 use Rattle.board_core.specs.declared.event.Entry.{Entry as Event}
 use Rattle.turn_lock.specs.Turns.{PassState}
@@ -32,6 +33,7 @@ loop-pass-init g c =
     let role : R = Watch (record { pass = pass; writer = writer; reader = c.args.reader; reports = reports }) in
     let is : IsRoleAt g.T.Stock.words g.T.Counted.table_of written faults reports board (n - 0) n role = (
       record {
+        none = subst (λ (p : P). p.own ≡ []) (ap (λ (l : List P). get_or l (length new) pass) items ∙ get_or-append_seam new pass [] pass) (c.requires.fresh (length new) pass (omega arith));
         may = may_first g.T.Stock.words g.T.Counted.table_of board pass writer at.pass_of c.requires.whole c.requires.reached c.requires.range c.requires.bottom c.requires.none;
         reader = ap (λ (r : LiveState). r.known.book) c.requires.reader;
         range = ap (λ (r : LiveState). r.range) c.requires.reader ∙ sym c.requires.range;

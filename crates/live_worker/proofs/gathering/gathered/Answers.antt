@@ -1,4 +1,4 @@
-use Rattle.std.proofs.Common.{◌≡◌, ℕ, suc, ◌-◌, [], ◌∷◌, ◌++◌, length, Option, Some, inl, refl, sym, ◌∙◌, ap, subst, arith}
+use Rattle.std.proofs.Common.{◌≡◌, ℕ, suc, ◌-◌, ◌<◌, ◌≤◌, [], ◌∷◌, ◌++◌, length, Option, Some, inl, refl, sym, ◌∙◌, ap, subst, arith}
 use Rattle.std.specs.Option.{option_to_list}
 use Rattle.board_core.specs.declared.event.Entry.{Entry as Event}
 use Rattle.turn_lock.specs.Turns.{TurnId, PassState, HasBetween}
@@ -8,6 +8,8 @@ use Rattle.live_worker.specs.declared.role.Role.{Role}
 use Rattle.live_worker.specs.declared.role.Role.TheVariants.{Work, Watch}
 use Rattle.live_worker.specs.Inside.Roles.{IsRoleAt}
 use Rattle.live_worker.proofs.Rows.{one_more, others_are, last_is}
+use Rattle.square_board.specs.Workers.{MadePairs}
+use Rattle.live_worker.proofs.Joined.{pairs_joined}
 use Rattle.live_worker.proofs.Watching.{can_after_join}
 use Rattle.live_worker.proofs.gathering.gathered.Goals as goal
 
@@ -33,6 +35,8 @@ loop-role-init g c =
       fewer = omega arith;
       told = is.3;
       has = λ n low high. inl (omega arith);
+      last = omega arith;
+      pairs = λ i more less. absurd (omega arith);
     }
 
 pub unreachable-requires-in_default-role : goal.unreachable-requires-in_default-role
@@ -83,11 +87,14 @@ loop-role-preserved g c =
     let has : HasBetween watcher.pass (suc (length new)) board.passes = subst (λ (k : ℕ). HasBetween watcher.pass k board.passes) more c.loop-role.invariant.has in
     let both = has_previous watcher.pass other c.join.new.pass.seen (length new) board.passes has is.1 in
     record {
-      watcher = can_after_join g.T.Stock.words g.T.Counted.table_of board watcher (record { pass = c.join.new.pass; writer = watcher.writer; reader = watcher.reader; reports = watcher.reports }) c.loop-role.invariant.watcher c.join.ensures.pass c.join.ensures.continues refl refl refl;
+      watcher = can_after_join g.T.Stock.words g.T.Counted.table_of board watcher (record { pass = c.join.new.pass; writer = watcher.writer; reader = watcher.reader; reports = watcher.reports }) c.loop-role.invariant.watcher c.join.ensures.pass (ap (λ (p : P). p.own) c.join.ensures.joined) c.join.ensures.continues refl refl refl;
       roles = others_are g.T.Stock.words g.T.Counted.table_of written faults first board n old new role c.loop-role.invariant.roles items;
       fewer = omega arith;
       told = c.loop-role.invariant.told;
       has = subst (λ (p : P). HasBetween p (length new) board.passes) (sym c.join.ensures.joined) both;
+      last = ap (λ (p : P). suc p.number) c.join.ensures.joined ∙ c.loop-role.invariant.last;
+      pairs = subst (λ (p : P). (i : ℕ) → length new ≤ i → i < p.number → MadePairs p i) (sym c.join.ensures.joined)
+          (pairs_joined watcher.pass other c.join.new.pass.seen (length new) is.1 is.3 (λ i low less. c.loop-role.invariant.pairs i (omega arith) less));
     }
 
 pub returns-clause-all : goal.returns-clause-all
@@ -96,3 +103,12 @@ returns-clause-all g c =
     let pass = c.loop-role.watcher.pass in
     let none : length c.loop-role.roles.items ≡ 0 = let v = c.pop.ensures.variant.1 in let n = c.in_default-pop.not-Some in let i = c.in_default-pop.is in let s = c.pop.ensures.cases in grind arith in
     has_all pass c.args.board.now.passes (subst (λ (n : ℕ). HasBetween pass n c.args.board.now.passes) none c.loop-role.invariant.has) (ap (λ (t : TurnId O). t.passes) c.loop-role.invariant.watcher.may.pass_of.turn)
+
+pub returns-clause-gathered : goal.returns-clause-gathered
+returns-clause-gathered g c =
+    let none : length c.loop-role.roles.items ≡ 0 = let v = c.pop.ensures.variant.1 in let n = c.in_default-pop.not-Some in let i = c.in_default-pop.is in let s = c.pop.ensures.cases in grind arith in
+    record {
+      last = c.loop-role.invariant.last;
+      none = c.loop-role.invariant.watcher.none;
+      pairs = λ i less. c.loop-role.invariant.pairs i (omega arith) less;
+    }

@@ -1,6 +1,7 @@
 use Rattle.std.proofs.Common.{◌≡◌, ℕ, ◌≤◌, false, ◌∙◌, subst}
+use Rattle.square_board.specs.Workers.{AreOfWorkers}
 use Rattle.live_worker.specs.Reports.{squares_of}
-use Rattle.live_worker.proofs.Joined.{all_still}
+use Rattle.live_worker.proofs.Joined.{all_still, gathered_still, of_the_others}
 use Rattle.live_worker.proofs.Reported.{on_ok, reported}
 use Rattle.live_worker.proofs.Made.{made_or_memory}
 use Rattle.live_worker.proofs.Telling.{told_twice}
@@ -12,7 +13,17 @@ conclude-made-requires-clause-joined g c κs within =
     all_still c.args.board c.args.watcher.pass c.report-last.new.watcher.pass c.requires.can.may.pass_of after.can.may.pass_of after.same c.requires.joined
 
 pub returns-clause-made : goal.returns-clause-made
-returns-clause-made g c = made_or_memory g.T.Stock.words c.args.board.name.first.value c.args.range _ c.conclude-made.result.1 c.reported_whole-given.result c.conclude-made.ensures c.reported_whole-given.ensures.is
+returns-clause-made g c =
+    let w = g.T.Stock.words in
+    let first = c.args.board.name.first.value in
+    let made = c.conclude-made.result.0 in
+    let last = c.conclude-made.result.1 in
+    let after = c.report-last.ensures.watched in
+    let pass = c.report-last.new.watcher.pass in
+    let ended = c.conclude-made.ensures in
+    let gathered = gathered_still c.args.board.passes c.args.watcher.pass pass after.same after.can.none c.requires.gathered in
+    let by : AreOfWorkers c.args.watcher.pass.number ended.made.history = subst (λ (n : ℕ). AreOfWorkers n ended.made.history) after.same.number (of_the_others c.args.board.passes pass ended.made.history gathered ended.continues ended.only) in
+    made_or_memory w c.args.watcher.pass.number first c.args.range made last c.reported_whole-given.result (record { made = ended.made; by = by }) c.reported_whole-given.ensures.is
 
 pub returns-clause-told : goal.returns-clause-told
 returns-clause-told g c start zero well of_all told =

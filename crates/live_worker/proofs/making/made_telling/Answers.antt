@@ -1,10 +1,12 @@
-use Rattle.std.proofs.Common.{◌≡◌, ℕ, ◌-◌, false, List, length, drop, refl, sym, ◌∙◌, ap, subst, arith}
+use Rattle.std.proofs.Common.{◌≡◌, ℕ, ◌-◌, false, Err, List, length, drop, refl, sym, ◌∙◌, ap, subst, arith}
 use Rattle.bidegree.specs.declared.range.Range.{Range}
-use Rattle.square_board.specs.Workers.{HasMade}
+use Rattle.board_core.specs.declared.event.Cause.TheVariants.{Memory}
+use Rattle.square_board.specs.Workers.{HasMadeBy}
 use Rattle.live_worker.specs.Reports.{squares_of}
 use Rattle.live_worker.specs.declared.role.Role.{Role}
 use Rattle.live_worker.specs.declared.reports.Reports.{Reports}
 use Rattle.live_worker.specs.Inside.Roles.{AreRoles, HasTold}
+use Rattle.live_worker.proofs.Reported.{reported_none}
 use Rattle.live_worker.proofs.Rows.{can_run, ran_are, written_back}
 use Rattle.live_worker.proofs.making.made_telling.Goals as goal
 
@@ -80,10 +82,25 @@ gathered-watcher-requires-clause-roles g c κs within =
 -- ---- the end
 
 pub returns-clause-made : goal.returns-clause-made
-returns-clause-made g c = subst (λ (x : g.row.T.Denot). HasMade g.T.Stock.words x c.args.task.range c.concluded-err.result.1.0 c.concluded-err.result.1.1) c.in-Ok.ensures.opened.first_is c.concluded-err.ensures.made
+returns-clause-made g c =
+    let opened = c.in-Ok.ensures.opened in
+    let last = c.gathered-watcher.ensures.gathered.last in
+    let as_many = opened.as_many in
+    let number : c.gathered-watcher.result.pass.number ≡ c.args.task.workers = omega arith in
+    subst (λ (n : ℕ). HasMadeBy g.T.Stock.words n c.args.task.stock c.args.task.range c.concluded.result.1.0 c.concluded.result.1.1) number
+    (subst (λ (x : g.row.T.Denot). HasMadeBy g.T.Stock.words c.gathered-watcher.result.pass.number x c.args.task.range c.concluded.result.1.0 c.concluded.result.1.1) opened.first_is c.concluded.ensures.made)
 
 pub returns-clause-reported : goal.returns-clause-reported
 returns-clause-reported g c =
     let first : Reports g.row.E.Denot = record { err = c.args.err; most = 0; all = c.squares_of.result; failed = false } in
     let told = subst (λ (r : Reports g.row.E.Denot). HasTold g.E.Sink.written g.E.Sink.faults r c.gathered-watcher.result.reports) c.of-first.ensures c.gathered-watcher.ensures.told in
-    c.concluded-err.ensures.told first refl refl c.squares_of.ensures told
+    c.concluded.ensures.told first refl refl c.squares_of.ensures told
+
+-- ---- no board
+
+pub returns-in-Err-clause-made : goal.returns-in-Err-clause-made
+returns-in-Err-clause-made g c =
+    subst (λ (x : g.row.T.Denot). HasMadeBy g.T.Stock.words c.args.task.workers x c.args.task.range (Err Memory) c.in-Err.stock) c.in-Err.ensures.refused (c.no_board.ensures c.args.task.workers)
+
+pub returns-in-Err-clause-reported : goal.returns-in-Err-clause-reported
+returns-in-Err-clause-reported g c = reported_none (squares_of c.args.task.range) Memory (g.E.Sink.written c.args.err) (g.E.Sink.faults c.args.err)

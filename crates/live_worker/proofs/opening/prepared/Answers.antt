@@ -1,5 +1,9 @@
 use Rattle.std.proofs.Common.{◌≡◌, ◌+◌, ◌≤ℤ◌, ◌+ℤ◌, ℤ, pos, ◌∙◌, to_z, of_z, w32, sym, ap, subst, arith}
 use Rattle.std.proofs.lemmas.Int.{to_z-of_z}
+use Rattle.std.proofs.lemmas.Option.{get_or_from_slice_get}
+use Rattle.board_core.specs.declared.event.Entry.{Entry as Event}
+use Rattle.turn_lock.specs.Turns.{PassState, new_pass}
+use Rattle.square_board.specs.declared.opening.Opening.{Opening}
 use Rattle.square_board.proofs.Made.{new_are}
 use Rattle.live_worker.proofs.opening.prepared.Goals as goal
 
@@ -17,6 +21,7 @@ returns-in-Ok-new-2-clause-opened g c =
       of_range = made.opened.range_is;
       as_many = made.as_many ∙ more;
       count = made.count ∙ more;
+      fresh = λ i d h. ap (λ (p : PassState (Opening g.row.T.Denot) Event). p.own) (get_or_from_slice_get c.in-Ok-new-2.passes.items i (new_pass c.in-Ok-new-2.board i) d (made.passes i (let n = made.count in omega arith)));
       passes = new_are c.in-Ok-new-2.board c.in-Ok-new-2.passes.items (λ i h. made.passes i (let n = made.count in omega arith));
       empty = c.in-Ok.ensures.items;
       room = let room = c.in-Ok.ensures.capacity in omega arith;

@@ -12,7 +12,7 @@ returns-in_err-note-clause-watched g c =
     let faults = g.E.Sink.faults in
     let old = c.args.watcher.now in
     let after = c.in_err-note.ensures in
-    watched g.T.Stock.words g.T.Counted.table_of written faults c.args.board.now old _ c.requires after.may after.same (ap (λ (w : LiveState). w.known.book) after.memory) refl refl (told_none written faults old.reports)
+    watched g.T.Stock.words g.T.Counted.table_of written faults c.args.board.now old _ c.requires after.may after.same after.own (ap (λ (w : LiveState). w.known.book) after.memory) refl refl (told_none written faults old.reports)
 
 pub learn-requires : goal.learn-requires
 learn-requires g c =
@@ -29,11 +29,11 @@ returns-in_err-tell-clause-watched g c =
     let after = c.in_ok-note.ensures in
     let learn = c.learn.ensures in
     let asked = c.squares-squares.ensures in
-    watched g.T.Stock.words g.T.Counted.table_of g.E.Sink.written g.E.Sink.faults c.args.board.now c.args.watcher.now _ c.requires after.may after.same (ap (λ (k : KnownViews). k.book) after.published.known) (asked.seen.book ∙ learn.seen.book) (ap (λ (r : LiveState). r.range) asked.same ∙ ap (λ (r : LiveState). r.range) learn.same) c.tell.ensures.told
+    watched g.T.Stock.words g.T.Counted.table_of g.E.Sink.written g.E.Sink.faults c.args.board.now c.args.watcher.now _ c.requires after.may after.same after.own (ap (λ (k : KnownViews). k.book) after.published.known) (asked.seen.book ∙ learn.seen.book) (ap (λ (r : LiveState). r.range) asked.same ∙ ap (λ (r : LiveState). r.range) learn.same) c.tell.ensures.told
 
 pub returns-clause-watched : goal.returns-clause-watched
 returns-clause-watched g c =
     let after = c.in_ok-note.ensures in
     let learn = c.learn.ensures in
     let asked = c.squares-squares.ensures in
-    watched g.T.Stock.words g.T.Counted.table_of g.E.Sink.written g.E.Sink.faults c.args.board.now c.args.watcher.now _ c.requires after.may after.same (ap (λ (k : KnownViews). k.book) after.published.known) (asked.seen.book ∙ learn.seen.book) (ap (λ (r : LiveState). r.range) asked.same ∙ ap (λ (r : LiveState). r.range) learn.same) c.tell.ensures.told
+    watched g.T.Stock.words g.T.Counted.table_of g.E.Sink.written g.E.Sink.faults c.args.board.now c.args.watcher.now _ c.requires after.may after.same after.own (ap (λ (k : KnownViews). k.book) after.published.known) (asked.seen.book ∙ learn.seen.book) (ap (λ (r : LiveState). r.range) asked.same ∙ ap (λ (r : LiveState). r.range) learn.same) c.tell.ensures.told

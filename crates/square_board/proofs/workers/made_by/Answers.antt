@@ -26,11 +26,11 @@ join_all-pass-requires-clause-passes g c κs within =
 pub returns : goal.returns
 returns g c =
     let w = g.T.Stock.words in
-    let ended = c.ended.ensures in
+    let ended = c.conclude.ensures in
     let by : AreOfWorkers c.in-Ok.made.0.passes ended.made.history = of_workers c.join_all-pass.result c.in-Ok.made.0.passes ended.made.history ended.continues ended.only c.join_all-pass.ensures.pairs in
-    let made : HasMadeBy w c.args.workers c.in-Ok.made.0.name.first.value c.args.range c.ended.result.0 c.ended.result.1 =
+    let made : HasMadeBy w c.args.workers c.in-Ok.made.0.name.first.value c.args.range c.conclude.result.0 c.conclude.result.1 =
     record { made = ended.made; by = subst (λ (n : ℕ). AreOfWorkers n ended.made.history) c.in-Ok.ensures.as_many by } in
-    subst (λ (x : g.row.T.Denot). HasMadeBy w c.args.workers x c.args.range c.ended.result.0 c.ended.result.1) c.in-Ok.ensures.opened.first_is made
+    subst (λ (x : g.row.T.Denot). HasMadeBy w c.args.workers x c.args.range c.conclude.result.0 c.conclude.result.1) c.in-Ok.ensures.opened.first_is made
 
 pub returns-in-Err : goal.returns-in-Err
 returns-in-Err g c = subst (λ (x : g.row.T.Denot). HasMadeBy g.T.Stock.words c.args.workers x c.args.range (Err Memory) c.in-Err.stock) c.in-Err.ensures.err (c.no_board.ensures c.args.workers)
