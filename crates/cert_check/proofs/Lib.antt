@@ -1,5 +1,5 @@
 mod Vectors
-mod Part
+pub mod Part
 pub mod Faults
 mod Verdict
 pub mod Alike

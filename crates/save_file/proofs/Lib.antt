@@ -12,6 +12,7 @@ mod Appending
 pub mod Pushing
 mod Reductions
 mod Inverting
+mod Inexact
 pub mod Adding
 pub mod Keeping
 pub mod TakingUp

@@ -4,6 +4,7 @@
 
 mod body;
 mod differential;
+mod exactness;
 mod fault;
 mod laws;
 mod outline;
@@ -17,6 +18,7 @@ mod saving;
 mod writing;
 
 pub use body::Body;
+pub use exactness::may_be_exact;
 pub use fault::{DecodeFault, ResumeFault};
 pub use laws::{
     additions_have_the_rules, bodies_have_the_rules, each_addition_is_read, each_body_is_read,
