@@ -1,0 +1,9 @@
+mod Growing
+mod Widths
+mod Whole
+mod Stems
+mod Canonical
+mod Parts
+mod Looking
+mod Within
+mod Examples

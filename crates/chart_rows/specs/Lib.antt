@@ -1,0 +1,4 @@
+pub mod Standing
+pub mod Placing
+pub mod Canonical
+pub mod Within
