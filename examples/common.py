@@ -11,7 +11,7 @@ import shutil
 import signal
 import subprocess
 import sys
-from collections import Counter, namedtuple
+from collections import namedtuple
 from contextlib import suppress
 
 HERE = os.path.dirname(os.path.realpath(__file__))
@@ -140,59 +140,24 @@ def chart(rows, top, file=SPHERE, stems=False):
     return {(stem, s): int(mark) for stem, s, mark in marks if mark != "."}
 
 
-def product_lines(rows, top, by, file):
-    """The lines of `ext products` by each of these classes of the sphere, made in one run."""
-    if not by:
-        return {}
-    lines = ext("products", rows, top, *[f"--by={','.join(map(str, a))}" for a in by], file=file)
-    if len(by) == 1:
-        return {by[0]: lines}
-    found = {}
-    for line in lines:
-        if line.startswith("by "):
-            (a,) = classes(line)
-            found[a] = []
-        else:
-            found[a].append(line)
-    return found
-
-
 def table(rows, top, by=(), file=SPHERE, stems=False):
-    """The module's table through the range, with its products by these classes of the sphere. With stems, top is the last stem above the bottom,
-    and else the last degree.
+    """The module's table through the range, with its products by these classes of the sphere: what `ext table` prints. With stems, top is the last stem
+    above the bottom, and else the last degree. Classes of the sphere past the range have no products in it, and the others have to be there.
 
-    The products by h_k are read off the differentials: h_k x is the sum of the classes y of the next row in whose d the term Sq(2^k) x stands,
-    since of Milnor's basis in degree 2^k that element alone is no sum of products. So all of them cost one run, without kernels. Those by
-    other classes are made in the rectangle of rows and degrees, in one run more.
+    Products with classes of row 1 are read off images, those with others made of lifts. So there is a run for each kind of classes.
     """
-    counts, hits = Counter(), {k: {} for k in range((top + rows * stems).bit_length())}
-    everything = []
-    for line in ext("dump", rows, top, *["--stems"] * stems, file=file):
-        left, _, image = line.partition(" = ")
-        (one,) = classes(left)
-        everything.append(one)
-        counts[one[1] - one[0], one[0]] += 1
-        for n, *x in re.findall(r"Sq\((\d+)\)\*\((\d+),(-?\d+),(\d+)\)", image):
-            k = int(n).bit_length() - 1
-            if int(n) == 2 ** k:
-                hits[k].setdefault(tuple(map(int, x)), []).append(one)
-    bottom = min((t for s, t, _ in everything if s == 0), default=0)
-
-    def is_in(s, t):
-        return s <= rows and t - bottom - s * stems <= top
-
-    products, others = {}, []
-    for a in by:
-        k = a[1].bit_length() - 1
-        if a == UNIT:
-            products[a] = {x: [x] for x in everything}
-        elif a == h(k):
-            products[a] = {x: hits[k].get(x, []) for x in everything if is_in(x[0] + 1, x[1] + a[1])}
-        else:
-            others.append(a)
-    for a, lines in product_lines(rows, top + rows * stems, others, file).items():
-        products[a] = {x: total for x, *total in map(classes, lines) if is_in(x[0] + a[0], x[1] + a[1])}
-    return Table(bottom, dict(counts), products)
+    near = [a for a in by if a[0] <= rows and a[1] <= top + rows * stems]
+    counts, products = {}, {a: {} for a in by}
+    for some in filter(None, ([a for a in near if a[0] == 1], [a for a in near if a[0] != 1])) if near else [[]]:
+        *lines, ends = ext("table", rows, top, *["--stems"] * stems, *[f"--by={','.join(map(str, a))}" for a in some], file=file)
+        for line in lines:
+            kind, place, *others = line.split()
+            if kind == "square":
+                counts[int(others[1]), int(place[1:place.index(",")])] = int(others[3])
+            elif others[-1] != "past":
+                a, x, *total = classes(line)
+                products[a][x] = total
+    return Table(int(re.match(r"stems (-?\d+)\.\.", ends)[1]), counts, products)
 
 
 # ---- module files

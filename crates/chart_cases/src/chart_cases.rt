@@ -1,5 +1,5 @@
 //! The cases of classes and of their texts.
-use crate::classes::{bracketed, multiplied, sought};
+use crate::classes::{bracketed, lined, multiplied, sought};
 use crate::texts::{accepted, bracket_written, charted, dumped, product_written, summed_up};
 use cases::{Case, Differences, Fault, Judge};
 use std::alloc::Global;
@@ -12,6 +12,7 @@ use std::alloc::Global;
 /// | verb and words | fields | what comes of it |
 /// |---|---|---|
 /// | `product A X` | `through`, `module` | it `is` zero, or has ones at these places of so many, or is refused |
+/// | `line A X` | `through`, `module` | the line of their product, or that it is refused |
 /// | `bracket A B C` | `through` | it `is` in a square, with a value and the rank of its indeterminacy, or is refused |
 /// | `place X` | `through`, `module` | it `is` there or not |
 /// | `chart`, `dump`, `summary` | `through`, `module` | the text |
@@ -27,6 +28,7 @@ impl Judge for ChartCases {
     fn verbs(&self) -> &[&'static str] {
         &[
             "product",
+            "line",
             "bracket",
             "place",
             "chart",
@@ -61,6 +63,7 @@ fn outcome(alloc: Global, case: &Case) -> Result<String, Fault> {
     let words = case.split_words(alloc)?;
     match (case.verb.as_str(), words.as_slice()) {
         ("product", [a, x]) => multiplied(alloc, case, a, x),
+        ("line", [a, x]) => lined(alloc, case, a, x),
         ("bracket", [a, b, c]) => bracketed(alloc, case, a, b, c),
         ("place", [x]) => sought(alloc, case, x),
         ("chart", []) => charted(alloc, case),

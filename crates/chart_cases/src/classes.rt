@@ -1,9 +1,10 @@
 //! Products and brackets of classes.
 use crate::tables::{number, range_of, table_of};
+use crate::texts::text_of;
 use bidegree::Class;
 use cases::{Case, Fault};
 use chain_map::{Held, Source};
-use ext_products::sphere_table;
+use ext_products::{ClassesFault, one_product_text, sphere_table};
 use f2_vec::BitVec;
 use massey::{MasseyFault, bracket};
 use std::alloc::Global;
@@ -23,6 +24,21 @@ pub(crate) fn multiplied(alloc: Global, case: &Case, a: &str, x: &str) -> Result
         Err(YonedaFault::Memory) => Err(Fault::Memory),
         Err(YonedaFault::NoClass { which, count }) => missing(alloc, which, count),
         Err(fault) => Ok(format!(in alloc; "refused: {fault}")?),
+    }
+}
+
+/// The line of the product of a class of the sphere with a class of a module.
+pub(crate) fn lined(alloc: Global, case: &Case, a: &str, x: &str) -> Result<String, Fault> {
+    let (a, x) = (class_of(case, a)?, class_of(case, x)?);
+    let range = range_of(case)?;
+    let table = table_of(alloc, case, range)?;
+    let source = Source {
+        held: Held::Squares(&table),
+    };
+    match one_product_text(alloc, &source, range, a, x) {
+        Ok(text) => text_of(case, text),
+        Err(ClassesFault::Memory) => Err(Fault::Memory),
+        Err(ClassesFault::Refused(refusal)) => Ok(format!(in alloc; "refused: {refusal}")?),
     }
 }
 

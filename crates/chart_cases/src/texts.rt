@@ -104,6 +104,6 @@ fn vector_of(alloc: Global, digits: &str) -> Result<BitVec, Fault> {
 }
 
 /// A text from its bytes.
-fn text_of(case: &Case, bytes: Vec<u8>) -> Result<String, Fault> {
+pub(crate) fn text_of(case: &Case, bytes: Vec<u8>) -> Result<String, Fault> {
     String::from_utf8(bytes).map_err(|_| case.refused("no text"))
 }

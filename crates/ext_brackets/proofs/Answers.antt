@@ -7,6 +7,7 @@ use Rattle.std.proofs.lemmas.Bool.Decides.{nat_tests}
 use Rattle.std.proofs.lemmas.Int.{ints, by_lt_z}
 use Rattle.bidegree.specs.Above.{above_of}
 use Rattle.bidegree.specs.declared.range.Range.{Range}
+use Rattle.bidegree.specs.declared.shape.Shape.TheVariants.{Rectangle}
 use Rattle.bidegree.specs.declared.class.Class.{Class}
 use Rattle.f2_vec.specs.Vectors.{IsZero}
 use Rattle.f2_matrix.proofs.Unique.{zero_or_first}
@@ -20,38 +21,12 @@ use Rattle.ext_products.specs.declared.refusal.Pair.{Pair}
 use Rattle.ext_products.specs.declared.refusal.Pair.TheVariants.{Ab, Bc}
 use Rattle.ext_products.specs.declared.refusal.Refusal.{Refusal}
 use Rattle.ext_products.specs.Products.{HasAnswer}
-use Rattle.ext_products.proofs.Answers.{IsFound, found, product-exists}
+use Rattle.ext_products.proofs.Answers.{IsFound, product-exists}
+use Rattle.ext_products.proofs.Near.{class_there, IsNear, square_near}
 use Rattle.ext_brackets.specs.Brackets.{absent, past, not_zero, refusal_of, IsBracketText, IsToldOf, IsTold, IsBracketAnswer}
 use Rattle.ext_brackets.proofs.Exists.{AreLaws, AreInRange, bracket_exists}
 
 -- ---- what no refusal says
-
-count_of-none : (found : Bool) (n : ℕ) (f : ℕ → Refusal) → option_map f (if found then None else Some n) ≡ None → found ≡ true
-count_of-none true n f e = refl
-count_of-none false n f e = absurd (cc)
-
--- a class that is not missing is there
-pub class_there : (say : ℕ → Refusal) (c : Class) (r : Resolution) → no_class say r c ≡ None → IsFound r c
-class_there say c r none =
-    let test = count_of-none (nat_lt c.i (class_count r c.s c.t)) (class_count r c.s c.t) say none in
-    found r c (above_of r.base.bottom c.t) refl (grind (arith, nat_tests, test))
-
-past-none : (far : Bool) (e : Refusal) → (if far then Some e else None) ≡ None → far ≡ false
-past-none false e h = refl
-past-none true e h = absurd (cc)
-
-int_lt-true : (x y : ℤ) → int_lt x y ≡ false → y ≤ℤ x
-int_lt-true x y e = by_lt_z x y (λ l. let t : int_lt x y ≡ true = grind (arith, ints) in absurd (true≢false (sym t ∙ e))) (λ h. h)
-
--- a square that is not past the range is in it
-pub record IsNear (r : Resolution) (range : Range) (s t : ℤ) : Type 0 where
-  pub row : s ≤ℤ pos range.s
-  pub degree : t ≤ℤ (r.base.bottom +ℤ pos range.t)
-
-pub square_near : (say : ℤ → ℤ → Refusal) (range : Range) (r : Resolution) (s t : ℤ) → out_of_range say range r s t ≡ None → IsNear r range s t
-square_near say range r s t none =
-    let near = or_parts (int_lt (pos range.s) s) (int_lt (r.base.bottom +ℤ pos range.t) t) (past-none (passes range r s t) (say s t) none) in
-    record { row = int_lt-true (pos range.s) s near.0; degree = int_lt-true (r.base.bottom +ℤ pos range.t) t near.1 }
 
 -- the three classes are there
 pub record AreThere (a b c : Class) (r q : Resolution) : Type 0 where
@@ -119,14 +94,14 @@ module _ (laws : AreLaws) (one : LiftsGiveOneProduct) (r q : Resolution) (range 
 
     lower-exists : (ab : List Bool) → IsYonedaProduct q q x y ab → IsZero ab → IsSome (λ answer. IsToldOf Bc b c r q y z answer (IsOkAnd answer (IsBracketText a b c r q x y z)))
     lower-exists ab ab_is ab_zero =
-        let product = product-exists laws.lifts one r q range y z canonical canonical_q sphere (record { row = omega (arith, inside.yz_row); degree = inside.yz_degree; number = inside.z_there }) inside.y_there in
+        let product = product-exists laws.lifts one r q Rectangle range y z canonical canonical_q sphere (record { row = omega (arith, inside.yz_row); degree = inside.yz_degree; near = inside.yz_degree; number = inside.z_there }) inside.y_there in
         product-told Bc b c r q y z product.0 product.1 (λ answer. IsOkAnd answer (IsBracketText a b c r q x y z)) (λ zero.
         let bracket = bracket_exists laws r q range canonical canonical_q sphere x y z inside ab product.0 ab_is product.1 ab_zero zero in
         (Ok (bracket_text (pos (a.s + b.s + c.s) -ℤ pos 1) (a.t +ℤ b.t +ℤ c.t) bracket.value bracket.rows), record { value = bracket.value; rows = bracket.rows; bracket = bracket.is_bracket; is = refl }))
 
     told-exists : IsSome (IsTold a b c r q)
     told-exists =
-        let product = product-exists laws.lifts one q q range x y canonical_q canonical_q sphere (record { row = omega (arith, inside.xy_row); degree = inside.xy_degree; number = inside.y_there }) inside.x_there in
+        let product = product-exists laws.lifts one q q Rectangle range x y canonical_q canonical_q sphere (record { row = omega (arith, inside.xy_row); degree = inside.xy_degree; near = inside.xy_degree; number = inside.y_there }) inside.x_there in
         let told = product-told Ab a b q q x y product.0 product.1 (λ answer. IsToldOf Bc b c r q y z answer (IsOkAnd answer (IsBracketText a b c r q x y z))) (lower-exists product.0 product.1) in
         (told.0, record { x = x; y = y; z = z; a_at = there.a_is.at; b_at = there.b_is.at; c_at = there.c_is.at; told = told.1 })
 

@@ -1,7 +1,7 @@
 //! What the words of a command line ask for.
 use bidegree::{Class, Shape};
 use cases::{Case, Differences, Fault};
-use ext_words::{Build, Command, Common, WordsFault, parse, remark, remark_on_classes};
+use ext_words::{Build, Classes, Command, Common, WordsFault, parse, remark, remark_on_classes};
 use std::alloc::Global;
 use std::str::from_utf8;
 
@@ -42,17 +42,20 @@ fn told(alloc: Global, command: &Command) -> Result<String, Fault> {
         Command::Sphere(common) => tell(&mut text, "sphere", common)?,
         Command::Resolve(common) => tell(&mut text, "resolve", common)?,
         Command::Dump(common) => tell(&mut text, "dump", common)?,
-        Command::Products { common, by } => {
-            tell(&mut text, "products", common)?;
-            for class in by.as_slice() {
-                tell_class(&mut text, "by", class)?;
-            }
-        }
+        Command::Products { common, by } => tell_products(&mut text, "products", common, by)?,
+        Command::Table { common, by } => tell_products(&mut text, "table", common, by)?,
         Command::Massey { common, a, b, c } => {
             tell(&mut text, "massey", common)?;
+            tell_three(&mut text, a, b, c)?;
+        }
+        Command::Product { workers, a, x } => {
+            write!(text, "product, workers {workers}")?;
             tell_class(&mut text, "a", a)?;
-            tell_class(&mut text, "b", b)?;
-            tell_class(&mut text, "c", c)?;
+            tell_class(&mut text, "x", x)?;
+        }
+        Command::Bracket { workers, a, b, c } => {
+            write!(text, "bracket, workers {workers}")?;
+            tell_three(&mut text, a, b, c)?;
         }
         Command::Check => text.push_str("check")?,
         Command::Build(Build::Sum) => text.push_str("build sum")?,
@@ -96,6 +99,27 @@ fn tell(text: &mut String, name: &str, common: &Common) -> Result<(), Fault> {
         text.push_str(", live")?;
     }
     Ok(())
+}
+
+/// Tells the name of a command of products, what it has in common with others, and its classes.
+fn tell_products(
+    text: &mut String,
+    name: &str,
+    common: &Common,
+    by: &Classes,
+) -> Result<(), Fault> {
+    tell(text, name, common)?;
+    for class in by.as_slice() {
+        tell_class(text, "by", class)?;
+    }
+    Ok(())
+}
+
+/// Tells the classes of a bracket.
+fn tell_three(text: &mut String, a: &Class, b: &Class, c: &Class) -> Result<(), Fault> {
+    tell_class(text, "a", a)?;
+    tell_class(text, "b", b)?;
+    tell_class(text, "c", c)
 }
 
 /// Tells a class and what it is to the command.

@@ -44,7 +44,7 @@ const TAKEN: u64 = 1000;
 /// How many bytes a sink holds, and how many a disk holds, with those that were written and the calls.
 const SINK_ROOM: usize = 10_000;
 
-const DISK_ROOM: usize = 100_000;
+const DISK_ROOM: usize = 2_000_000;
 
 /// What differs between what comes of a run of `ext` on the words of a case and its answer. `left` has the bytes of the disk that the
 /// run before left, and then those that this one leaves. A sink or source that is to fail has to fail once. If the words do not use

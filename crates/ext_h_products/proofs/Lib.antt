@@ -1,4 +1,4 @@
 pub mod Counts
 mod Powers
-mod Rows
+pub mod Rows
 mod Told

@@ -1,16 +1,15 @@
 -- What is told of the products of a class h_v with the classes of a module, where the images of its generators are at hand.
-use Rattle.std.specs.Prelude.{◌≡◌, ℕ, ◌+◌, ◌^◌, ◌<◌, ◌≤◌, pos, List, length, Result}
+use Rattle.std.specs.Prelude.{◌≡◌, ℕ, ◌+◌, ◌^◌, ◌≤◌, pos, List}
 use Rattle.bidegree.specs.declared.range.Range.{Range}
 use Rattle.bidegree.specs.declared.class.Class.{Class}
 use Rattle.square.specs.Squares.{over}
-use Rattle.resolution_laws.specs.Resolution.{Content, row_of}
-use Rattle.resolution_images.specs.BareRows.{BareTable, squares_of, AreOfCanonical}
+use Rattle.resolution_laws.specs.Resolution.{Content}
+use Rattle.resolution_images.specs.BareRows.{BareTable, AreOfRange}
 use Rattle.lift_laws.specs.Lifts.{Resolution, IsCanonical, IsSphere}
 use Rattle.lift_laws.specs.Products.{Class as ClassAbove, number_of, on_square}
 use Rattle.h_laws.specs.Products.{first_on}
 use Rattle.ext_chart.specs.declared.class_products.ProductLine.{ProductLine}
-use Rattle.ext_products.specs.declared.refusal.Refusal.{Refusal}
-use Rattle.ext_products.specs.Products.{resolution, IsLine, Telling}
+use Rattle.ext_products.specs.Products.{resolution, IsLine}
 
 -- h_v as words name it
 abbrev pub h_named : ℕ → Class
@@ -27,15 +26,11 @@ pub record IsH (range : Range) (class : Class) : Type 0 where
 abbrev pub OfSpheres : Range → (Resolution → Type 0) → Type 0
 OfSpheres range Holds = (q : Resolution) → IsCanonical q range.s range.t → IsSphere q → Holds q
 
--- the images go through the range
-abbrev pub ReachThrough : Range → BareTable → Type 0
-ReachThrough range images = (s : ℕ) → s ≤ range.s → range.t < length (row_of (squares_of images.rows) s)
-
--- The answer is what is told, where the images are those of the module's canonical resolution through the range, of that resolution
--- and the sphere's.
-abbrev pub IsAnswerOverImages : Telling → BareTable → Range → Result (List ℕ) Refusal → Type 0
+-- The answer is what is told, where the images are those of the module's canonical resolution through the range, or through its stems, of
+-- that resolution and the sphere's.
+abbrev pub IsAnswerOverImages : {X : Type 0} → (Resolution → Resolution → X → Type 0) → BareTable → Range → X → Type 0
 IsAnswerOverImages Tells images range answer =
-    AreOfCanonical (over images.resolved) range.s range.t images.rows → (table : List (List Content)) (q : Resolution) →
+    AreOfRange (over images.resolved) range.s range.t images.rows → (table : List (List Content)) (q : Resolution) →
     IsCanonical (resolution images.resolved.plain table) range.s range.t → IsCanonical q range.s range.t → IsSphere q →
     Tells (resolution images.resolved.plain table) q answer
 

@@ -1,6 +1,7 @@
 //! Which classes of row 1 the sphere has.
 ghost use Rattle.std.specs.Prelude.{◌≡◌, ◌==◌, true, IfErr, OnOk, Some, Err};
 ghost use Rattle.std.specs.List.{All, list_all};
+ghost use Rattle.bidegree.specs.declared.shape.Shape.{Shape};
 ghost use Rattle.lift_laws.specs.Lifts.{Resolution};
 ghost use Rattle.chain_map.specs.Classes.{missing_in};
 ghost use Rattle.ext_products.specs.Products.{IsProductsAnswer};
@@ -25,7 +26,7 @@ pub fn find_each(by: &[Class], range: Range) -> Result<(), Refusal>
     requires { list_all (λ class. class.s == 1) by.now ≡ true }
     ensures there { OnOk result (All (IsH range) by.now) }
     ensures missing { IfErr result (λ refusal.
-        OfSpheres range (λ q. (r : Resolution) → IsProductsAnswer range by.now r q (Err refusal))) }
+        OfSpheres range (λ q. (shape : Shape) (r : Resolution) → IsProductsAnswer shape range by.now r q (Err refusal))) }
 {
     h_laws::row_one_has_squares();
     for class in by {

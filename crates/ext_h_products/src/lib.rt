@@ -7,4 +7,4 @@ mod power;
 mod products;
 
 pub use found::{are_in_row_one, find_each};
-pub use products::h_products_text;
+pub use products::{h_products_text, h_products_with};

@@ -7,9 +7,10 @@ ghost use Rattle.resolution_images.specs.BareRows.{squares_of};
 ghost use Rattle.lift_laws.specs.Products.{Class as ClassAbove};
 ghost use Rattle.h_products.specs.ReadOff.{resolution_in, squares_on};
 ghost use Rattle.ext_products.specs.Products.{OneEach, classes_of, classes_in_row, factors};
-ghost use Rattle.ext_h_products.specs.RowOne.{ReachThrough, in_row_one, IsLineReadOff};
+ghost use Rattle.ext_chart.specs.Seen.{IsSeenThrough};
+ghost use Rattle.ext_h_products.specs.RowOne.{in_row_one, IsLineReadOff};
 
-use bidegree::Range;
+use bidegree::{Range, Shape};
 use ext_chart::ProductLine;
 use f2_vec::BitVec;
 use h_products::products_with_h;
@@ -18,24 +19,26 @@ use resolution_images::Images;
 use std::alloc::Global;
 
 /// The lines on the products, with a class of row 1 in degree `n`, of the classes of which these are the images, those products that
-/// are in the range, by row, by degree and by number.
+/// are in the squares of the range that are of this shape, by row, by degree and by number.
 pub(crate) fn lines(
     alloc: Global,
     images: &Images,
     range: Range,
+    shape: Shape,
     n: u16,
 ) -> Result<Vec<ProductLine>, Memory>
     requires rows { range.s ≤ MAX_S }
     requires degrees { range.t ≤ MAX_T }
-    requires through { ReachThrough range images.now }
+    requires through { IsSeenThrough range shape (squares_of images.now.rows) }
     requires row { 1 ≤ range.s }
-    requires degree { n ≤ range.t }
+    requires positive { 1 ≤ n }
     ensures { IfOk result (λ lines. OneEach (IsLineReadOff (resolution_in images.now) n)
-        (factors (resolution_in images.now) range (in_row_one n)) lines.items) }
+        (factors (resolution_in images.now) shape range (in_row_one n)) lines.items) }
 {
     let mut lines = Vec::new(alloc);
     for s in 0..range.s {
-        add_row(alloc, images, range.t, n, s, &mut lines)?;
+        let last = shape.last_degree(range, s + 1);
+        add_row(alloc, images, last, n, s, &mut lines)?;
     }
     Ok(lines)
 }
@@ -51,15 +54,14 @@ fn add_row(
 ) -> Result<(), Memory>
     requires row { s < MAX_S }
     requires degrees { last ≤ MAX_T }
-    requires squares { last < length (row_of (squares_of images.now.rows) s) }
+    requires squares { last < length (row_of (squares_of images.now.rows) s) + n }
     requires targets { last < length (row_of (squares_of images.now.rows) (s + 1)) }
-    requires degree { n ≤ last }
     ensures { OnOk result ((before : List ClassAbove) →
         OneEach (IsLineReadOff (resolution_in images.now) n) before lines.old.items →
         OneEach (IsLineReadOff (resolution_in images.now) n)
         (before ++ classes_in_row (resolution_in images.now) (last + 1 - n) s) lines.new.items) }
 {
-    for above in 0..last - n + 1 {
+    for above in 0..(last + 1).saturating_sub(n) {
         let values = products_with_h(alloc, images, n, s, above)?;
         add_square(alloc, images, n, s, above, values.as_slice(), lines)?;
     }

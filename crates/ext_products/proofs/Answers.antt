@@ -7,12 +7,13 @@ use Rattle.std.proofs.lemmas.Int.{ints}
 use Rattle.std.proofs.lemmas.List.{get_or_past}
 use Rattle.bidegree.specs.Above.{above_of}
 use Rattle.bidegree.specs.declared.range.Range.{Range}
+use Rattle.bidegree.specs.declared.shape.Shape.{Shape}
 use Rattle.bidegree.specs.declared.class.Class.{Class}
 use Rattle.bidegree.proofs.Degrees.{natural-is}
 use Rattle.resolution_laws.specs.Resolution.{Content, no_content, square_in, row_of, IsCanonicalTable}
 use Rattle.lift_laws.specs.Lifts.{Resolution, IsCanonical, IsSphere, EachClassLifts}
 use Rattle.lift_laws.specs.Products.{Class as ClassAbove, count_of, degree_of_class, number_of, product_by, LiftsGiveOneProduct}
-use Rattle.chain_map.specs.Classes.{class_count, missing_in, IsAt}
+use Rattle.chain_map.specs.Classes.{class_count, IsAt}
 use Rattle.chain_map.proofs.Classes.{class_is_once}
 use Rattle.chain_map.proofs.Generators.{is_number}
 use Rattle.yoneda.specs.Products.{IsYonedaProduct}
@@ -22,7 +23,7 @@ use Rattle.ext_chart.specs.Classes.{product_lines_text}
 use Rattle.ext_products.specs.declared.refusal.Refusal.{Refusal}
 use Rattle.ext_products.specs.declared.refusal.Refusal.TheVariants.{NoClass}
 use Rattle.ext_products.specs.declared.refusal.Named.TheVariants.{By}
-use Rattle.ext_products.specs.Products.{OneEach, factors, IsProductLine, IsProductsText, IsAnswerOfOne, HasAnswer}
+use Rattle.ext_products.specs.Products.{OneEach, factors, IsProductLine, AreProductLines, IsProductsText, IsAnswerOfOne, HasAnswer}
 use Rattle.ext_products.proofs.OneEach.{OneEach-unique, OneEach-made}
 use Rattle.ext_products.proofs.Factors.{IsFactor, are_factors}
 
@@ -32,24 +33,30 @@ abbrev line_of : ℕ → ℤ → ℕ → ℕ → ℤ → List Bool → ProductLi
 line_of s t i target_s target_t value = record { s = s; t = t; i = i; target_s = target_s; target_t = target_t; value = value }
 
 -- a line has what its class determines
-line-unique : (r q : Resolution) (a x : ClassAbove) (y z : ProductLine) → IsProductLine r q a x y → IsProductLine r q a x z → y ≡ z
+pub line-unique : (r q : Resolution) (a x : ClassAbove) (y z : ProductLine) → IsProductLine r q a x y → IsProductLine r q a x z → y ≡ z
 line-unique r q a x y z p k =
     let value : y.value ≡ z.value = p.product.each z.value k.product.some in
     let same : line_of y.s y.t y.i y.target_s y.target_t y.value ≡ line_of z.s z.t z.i z.target_s z.target_t z.value = cc in
     same
 
-pub text-unique : (range : Range) (by : Class) (r q : Resolution) (x y : List ℕ) → IsProductsText range by r q x → IsProductsText range by r q y → x ≡ y
-text-unique range by r q x y p k =
+pub lines-unique : (shape : Shape) (range : Range) (by : Class) (r q : Resolution) (x y : List ProductLine) → AreProductLines shape range by r q x → AreProductLines shape range by r q y → x ≡ y
+lines-unique shape range by r q x y p k =
     let a = class_is_once q by p.a k.a p.at k.at in
-    let here : OneEach (IsProductLine r q k.a) (factors r range k.a) p.lines = subst (λ (c : ClassAbove). OneEach (IsProductLine r q c) (factors r range c) p.lines) a p.are_lines in
-    let lines : p.lines ≡ k.lines = OneEach-unique (IsProductLine r q k.a) (line-unique r q k.a) (factors r range k.a) p.lines k.lines here k.are_lines in
-    p.is ∙ (ap product_lines_text lines ∙ sym k.is)
+    let here : OneEach (IsProductLine r q k.a) (factors r shape range k.a) x = subst (λ (c : ClassAbove). OneEach (IsProductLine r q c) (factors r shape range c) x) a p.are_lines in
+    OneEach-unique (IsProductLine r q k.a) (line-unique r q k.a) (factors r shape range k.a) x y here k.are_lines
+
+pub lines-of : (shape : Shape) (range : Range) (by : Class) (r q : Resolution) (text : List ℕ) (told : IsProductsText shape range by r q text) → AreProductLines shape range by r q told.lines
+lines-of shape range by r q text told = record { a = told.a; at = told.at; are_lines = told.are_lines }
+
+pub text-unique : (shape : Shape) (range : Range) (by : Class) (r q : Resolution) (x y : List ℕ) → IsProductsText shape range by r q x → IsProductsText shape range by r q y → x ≡ y
+text-unique shape range by r q x y p k =
+    p.is ∙ (ap product_lines_text (lines-unique shape range by r q p.lines k.lines (lines-of shape range by r q x p) (lines-of shape range by r q y k)) ∙ sym k.is)
 
 -- ---- one
 
 -- a class that is in the range has its product
-pub product-exists : EachClassLifts → LiftsGiveOneProduct → (r q : Resolution) (range : Range) (a x : ClassAbove) → IsCanonical r range.s range.t → IsCanonical q range.s range.t → IsSphere q → IsFactor r range a x → a.i < count_of q a.s a.above → (v : List Bool) × IsYonedaProduct r q a x v
-product-exists lifts one r q range a x canonical canonical_q sphere factor there =
+pub product-exists : EachClassLifts → LiftsGiveOneProduct → (r q : Resolution) (shape : Shape) (range : Range) (a x : ClassAbove) → IsCanonical r range.s range.t → IsCanonical q range.s range.t → IsSphere q → IsFactor r shape range a x → a.i < count_of q a.s a.above → (v : List Bool) × IsYonedaProduct r q a x v
+product-exists lifts one r q shape range a x canonical canonical_q sphere factor there =
     let row = factor.row in
     let degree = factor.degree in
     let long = canonical.canonical.squares x.s (omega arith) in
@@ -59,9 +66,9 @@ product-exists lifts one r q range a x canonical canonical_q sphere factor there
     let v = product_by r q a lift.phi (x.s + a.s) (a.above + x.above) in
     (v, product-of-lift one r q range range canonical canonical_q sphere a x row degree (omega arith) (omega arith) there v (record { top = top; phi = lift.phi; reaches = omega (arith, ints); is_lift = lift.is_lift; gives = refl }))
 
-line-exists : EachClassLifts → LiftsGiveOneProduct → (r q : Resolution) (range : Range) (a : ClassAbove) → IsCanonical r range.s range.t → IsCanonical q range.s range.t → IsSphere q → a.i < count_of q a.s a.above → (x : ClassAbove) → IsFactor r range a x → (line : ProductLine) × IsProductLine r q a x line
-line-exists lifts one r q range a canonical canonical_q sphere there x factor =
-    let product = product-exists lifts one r q range a x canonical canonical_q sphere factor there in (
+pub line-exists : EachClassLifts → LiftsGiveOneProduct → (r q : Resolution) (shape : Shape) (range : Range) (a : ClassAbove) → IsCanonical r range.s range.t → IsCanonical q range.s range.t → IsSphere q → a.i < count_of q a.s a.above → (x : ClassAbove) → IsFactor r shape range a x → (line : ProductLine) × IsProductLine r q a x line
+line-exists lifts one r q shape range a canonical canonical_q sphere there x factor =
+    let product = product-exists lifts one r q shape range a x canonical canonical_q sphere factor there in (
       record { s = x.s; t = r.base.bottom +ℤ pos x.above; i = x.i; target_s = x.s + a.s; target_t = r.base.bottom +ℤ pos (a.above + x.above); value = product.0 },
       record { s = refl; t = refl; i = refl; target_s = refl; target_t = refl; product = product.1 },
     )
@@ -111,18 +118,17 @@ within-range q range a canonical there = elim (cases_lt range.s a.s) [
 
 -- ---- the answer
 
-text-exists : EachClassLifts → LiftsGiveOneProduct → (r q : Resolution) (range : Range) (by : Class) → IsCanonical r range.s range.t → IsCanonical q range.s range.t → IsSphere q → IsFound q by → (text : List ℕ) × IsProductsText range by r q text
-text-exists lifts one r q range by canonical canonical_q sphere f =
+text-exists : EachClassLifts → LiftsGiveOneProduct → (r q : Resolution) (shape : Shape) (range : Range) (by : Class) → IsCanonical r range.s range.t → IsCanonical q range.s range.t → IsSphere q → IsFound q by → (text : List ℕ) × IsProductsText shape range by r q text
+text-exists lifts one r q shape range by canonical canonical_q sphere f =
     let a = f.class in
-    let within = within-range q range a canonical_q.canonical f.there in
-    let lines = OneEach-made (IsFactor r range a) (IsProductLine r q a) (line-exists lifts one r q range a canonical canonical_q sphere f.there) (factors r range a) (are_factors r range a within.row within.degree) in
+    let lines = OneEach-made (IsFactor r shape range a) (IsProductLine r q a) (line-exists lifts one r q shape range a canonical canonical_q sphere f.there) (factors r shape range a) (are_factors r shape range a) in
     (product_lines_text lines.0, record { a = a; at = f.at; lines = lines.0; are_lines = lines.1; is = refl })
 
 -- whether the class is there decides
-answer-by : (range : Range) (by : Class) (r q : Resolution) (count : ℕ) (there : Bool) → (there ≡ true → (text : List ℕ) × IsProductsText range by r q text) → (answer : Result (List ℕ) Refusal) × MatchOption (if there then None else Some count) (IsOkAnd answer (IsProductsText range by r q)) (λ n. answer ≡ Err (NoClass By by n))
-answer-by range by r q count true text = let made = text refl in (Ok made.0, made.1)
-answer-by range by r q count false text = (Err (NoClass By by count), refl)
+answer-by : (shape : Shape) (range : Range) (by : Class) (r q : Resolution) (count : ℕ) (there : Bool) → (there ≡ true → (text : List ℕ) × IsProductsText shape range by r q text) → (answer : Result (List ℕ) Refusal) × MatchOption (if there then None else Some count) (IsOkAnd answer (IsProductsText shape range by r q)) (λ n. answer ≡ Err (NoClass By by n))
+answer-by shape range by r q count true text = let made = text refl in (Ok made.0, made.1)
+answer-by shape range by r q count false text = (Err (NoClass By by count), refl)
 
-pub one-exists : EachClassLifts → LiftsGiveOneProduct → (range : Range) (by : Class) → HasAnswer (IsAnswerOfOne range by) range
-one-exists lifts one range by r q canonical canonical_q sphere =
-    answer-by range by r q (class_count q by.s by.t) (nat_lt by.i (class_count q by.s by.t)) (λ e. text-exists lifts one r q range by canonical canonical_q sphere (found q by (above_of q.base.bottom by.t) refl (grind (arith, nat_tests, e))))
+pub one-exists : EachClassLifts → LiftsGiveOneProduct → (shape : Shape) (range : Range) (by : Class) → HasAnswer (IsAnswerOfOne shape range by) range
+one-exists lifts one shape range by r q canonical canonical_q sphere =
+    answer-by shape range by r q (class_count q by.s by.t) (nat_lt by.i (class_count q by.s by.t)) (λ e. text-exists lifts one r q shape range by canonical canonical_q sphere (found q by (above_of q.base.bottom by.t) refl (grind (arith, nat_tests, e))))

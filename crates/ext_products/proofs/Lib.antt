@@ -5,3 +5,6 @@ pub mod SphereTables
 pub mod Transport
 pub mod Answers
 pub mod Several
+pub mod Near
+pub mod OneProduct
+mod OneLine

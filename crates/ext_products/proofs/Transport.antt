@@ -6,6 +6,7 @@ use Rattle.std.proofs.lemmas.Int.{ints}
 use Rattle.std.proofs.lemmas.List.{ext_get_or, get_or-take, length-take-le, take-take}
 use Rattle.bidegree.specs.Above.{above_of}
 use Rattle.bidegree.specs.declared.range.Range.{Range}
+use Rattle.bidegree.specs.declared.shape.Shape.{Shape}
 use Rattle.bidegree.specs.declared.class.Class.{Class}
 use Rattle.bidegree.specs.declared.place.Place.{Place}
 use Rattle.bidegree.proofs.Degrees.{above_of-is}
@@ -34,13 +35,14 @@ use Rattle.yoneda.specs.Products.{class_above, IsPlaceOf, IsThere, IsYonedaProdu
 use Rattle.yoneda.proofs.Cut.{product_by-part}
 use Rattle.yoneda.proofs.OneProduct.{canonical_less, place_there, given-lowered, product-of-lift}
 use Rattle.yoneda.proofs.Through.{count_through}
+use Rattle.ext_chart.proofs.Seen.{last_within}
 use Rattle.ext_chart.specs.declared.class_products.ProductLine.{ProductLine}
 use Rattle.ext_chart.specs.Classes.{product_lines_text}
 use Rattle.ext_products.specs.declared.refusal.Refusal.{Refusal}
 use Rattle.ext_products.specs.declared.refusal.Refusal.TheVariants.{NoClass}
 use Rattle.ext_products.specs.declared.refusal.Named.TheVariants.{By}
-use Rattle.ext_products.specs.Products.{OneEach, resolution, factors, IsProductLine, IsProductsText, IsAnswerOfOne, IsAnswerOver, IsAnswerIn}
-use Rattle.ext_products.specs.Inside.{reach_of, IsInSphere, IsLineOver}
+use Rattle.ext_products.specs.Products.{OneEach, resolution, factors, IsProductLine, IsInSphere, AreProductLines, IsProductsText, IsAnswerOfOne, IsAnswerOver, IsAnswerIn}
+use Rattle.ext_products.specs.Inside.{reach_of, IsLineOver}
 use Rattle.ext_products.proofs.OneEach.{OneEach-all}
 use Rattle.ext_products.proofs.Factors.{IsFactor, are_factors, factors-same}
 use Rattle.ext_products.proofs.Answers.{none_past}
@@ -99,7 +101,7 @@ module _ (sphere : Staircase) (range : Range) (by : Class) (are_q : IsCanonicalI
   counted_at None e = refl
   counted_at (Some k) e = counted k (ap (degrees_asked range) (ap (λ (b : ℤ). above_of b by.t) (sym bottom) ∙ e))
 
-  same_missing : missing_in (through reach sphere) by ≡ missing_in q by
+  pub same_missing : missing_in (through reach sphere) by ≡ missing_in q by
   same_missing = ap (λ (count : ℕ). if nat_lt by.i count then None else Some count) (counted_at (above_of (bottom_of sphere.resolved) by.t) refl)
 
 -- the degrees that are asked of the sphere are those of the range
@@ -146,7 +148,7 @@ module _ (one : LiftsGiveOneProduct) (modules : ModulesAreSteenrodModules)
       let all_of = count_of-less (over sphere.resolved) full cut_q.table a.s a.above (full_rows a.s (omega arith)) a.above (omega arith) in
       omega (arith, a_there.generator)
 
-  module _ (x : ClassAbove) (factor : IsFactor cut_r range (class_above a) x) where
+  module _ (shape : Shape) (x : ClassAbove) (factor : IsFactor cut_r shape range (class_above a) x) where
     abbrev less : ℤ
     less = bottom_of table.resolved +ℤ pos (a.above + x.above)
 
@@ -165,20 +167,20 @@ module _ (one : LiftsGiveOneProduct) (modules : ModulesAreSteenrodModules)
           gives = some.gives ∙ product_by-part (over table.resolved) (over sphere.resolved) cut_r.table cut_r.table full cut_q.table range.t a.above (x.s + a.s) (a.above + x.above) (class_above a) (again_rows (x.s + a.s) rows) (full_rows a.s (omega arith)) degrees (omega arith) some.phi;
         })
 
-  line-through : (x : ClassAbove) (line : ProductLine) → IsFactor cut_r range (class_above a) x → IsLineOver table sphere a x line → IsProductLine cut_r whole_q (class_above a) x line
-  line-through x line factor is = record {
+  pub line-through : (shape : Shape) (x : ClassAbove) (line : ProductLine) → IsFactor cut_r shape range (class_above a) x → IsLineOver table sphere a x line → IsProductLine cut_r whole_q (class_above a) x line
+  line-through shape x line factor is = record {
     s = is.s;
     t = is.t;
     i = is.i;
     target_s = is.target_s;
     target_t = is.target_t;
-    product = product-through x factor line.value (is.product range near whole near_through factor.row factor.degree (omega arith) (omega arith) all are_q);
+    product = product-through shape x factor line.value (is.product range near whole near_through factor.row factor.degree (omega arith) (omega arith) all are_q);
   }
 
-  pub lines-through : (lines : List ProductLine) → OneEach (IsLineOver table sphere a) (factors r range (class_above a)) lines → OneEach (IsProductLine cut_r whole_q (class_above a)) (factors cut_r range (class_above a)) lines
-  lines-through lines are =
-      let same = factors-same r cut_r range (class_above a) row within (λ s k l b. sym (count_through table range s k l b)) in
-      OneEach-all (IsFactor cut_r range (class_above a)) (IsLineOver table sphere a) (IsProductLine cut_r whole_q (class_above a)) line-through (factors cut_r range (class_above a)) lines (are_factors cut_r range (class_above a) row within)
+  pub lines-through : (shape : Shape) (lines : List ProductLine) → OneEach (IsLineOver table sphere a) (factors r shape range (class_above a)) lines → OneEach (IsProductLine cut_r whole_q (class_above a)) (factors cut_r shape range (class_above a)) lines
+  lines-through shape lines are =
+      let same = factors-same r cut_r shape range (class_above a) (λ s k l b. sym (count_through table range s k (omega arith) (let near = last_within range shape (s + a.s) in omega arith))) in
+      OneEach-all (IsFactor cut_r shape range (class_above a)) (IsLineOver table sphere a) (IsProductLine cut_r whole_q (class_above a)) (line-through shape) (factors cut_r shape range (class_above a)) lines (are_factors cut_r shape range (class_above a))
       (subst (λ (xs : List ClassAbove). OneEach (IsLineOver table sphere a) xs lines) same are)
 
 -- ---- what is told
@@ -189,28 +191,22 @@ module _ (table sphere : Staircase) (range : Range) (by : Class) (are_q : IsCano
       let P : SteenrodModule → Type 0 = λ m. (full : List (List Content)) → IsCanonicalTable (module_over m) range.s range.t full → missing_in (resolution m full) by ≡ None in
       subst P is_sphere_module (λ full is_full. sym (same_missing sphere range by are_q full is_full is_sphere.bottom) ∙ there)
 
-  pub refused-answer : (count : ℕ) → missing_in (through (reach_of range by) sphere) by ≡ Some count → IsAnswerIn (IsAnswerOfOne range by) table range (Err (NoClass By by count))
-  refused-answer count missed =
+  pub refused-answer : (shape : Shape) (count : ℕ) → missing_in (through (reach_of range by) sphere) by ≡ Some count → IsAnswerIn (IsAnswerOfOne shape range by) table range (Err (NoClass By by count))
+  refused-answer shape count missed =
       let answer : Result (List ℕ) Refusal = Err (NoClass By by count) in
-      let P : SteenrodModule → Type 0 = λ m. (full : List (List Content)) → IsCanonicalTable (module_over m) range.s range.t full → IsAnswerOfOne range by (through range table) (resolution m full) answer in
+      let P : SteenrodModule → Type 0 = λ m. (full : List (List Content)) → IsCanonicalTable (module_over m) range.s range.t full → IsAnswerOfOne shape range by (through range table) (resolution m full) answer in
       subst P is_sphere_module (λ full is_full.
       let none = sym (same_missing sphere range by are_q full is_full is_sphere.bottom) ∙ missed in
-      subst (λ (o : Option ℕ). MatchOption o (IsOkAnd answer (IsProductsText range by (through range table) (resolution sphere.resolved.plain full))) (λ n. answer ≡ Err (NoClass By by n))) (sym none) refl)
+      subst (λ (o : Option ℕ). MatchOption o (IsOkAnd answer (IsProductsText shape range by (through range table) (resolution sphere.resolved.plain full))) (λ n. answer ≡ Err (NoClass By by n))) (sym none) refl)
 
   module _ (one : LiftsGiveOneProduct) (modules : ModulesAreSteenrodModules) (h : IsTable table) (hq : IsTable sphere) (whole : IsThrough range table.rows) (near : IsThrough (reach_of range by) sphere.rows) where
-    pub text-answer : (a : Place) → IsPlaceOf sphere (reach_of range by) by a → missing_in (through (reach_of range by) sphere) by ≡ None → (lines : List ProductLine) → OneEach (IsLineOver table sphere a) (factors (resolution_of table) range (class_above a)) lines → (text : List ℕ) → text ≡ product_lines_text lines → IsAnswerOver (IsAnswerOfOne range by) table range (Ok text)
-    text-answer a is there lines are text told all =
-        let answer : Result (List ℕ) Refusal = Ok text in
-        let P : SteenrodModule → Type 0 = λ m. (full : List (List Content)) → IsCanonicalTable (module_over m) range.s range.t full → IsAnswerOfOne range by (through range table) (resolution m full) answer in
+    pub lines-answer : (shape : Shape) (a : Place) → IsPlaceOf sphere (reach_of range by) by a → (lines : List ProductLine) → OneEach (IsLineOver table sphere a) (factors (resolution_of table) shape range (class_above a)) lines → IsAnswerOver (AreProductLines shape range by) table range lines
+    lines-answer shape a is lines are all =
+        let P : SteenrodModule → Type 0 = λ m. (full : List (List Content)) → IsCanonicalTable (module_over m) range.s range.t full → AreProductLines shape range by (through range table) (resolution m full) lines in
         let row_within = is.inside.row_within in
         let near_range = within-reach range by (bottom_of sphere.resolved) is_sphere.bottom a.above is.degree in
-        subst P is_sphere_module (λ full is_full.
-        let none = sym (same_missing sphere range by are_q full is_full is_sphere.bottom) ∙ there in
-        subst (λ (o : Option ℕ). MatchOption o (IsOkAnd answer (IsProductsText range by (through range table) (resolution sphere.resolved.plain full))) (λ n. answer ≡ Err (NoClass By by n))) (sym none)
-        (record {
+        subst P is_sphere_module (λ full is_full. record {
           a = class_above a;
           at = record { row = is.row; degree = is.degree; number = is.number };
-          lines = lines;
-          are_lines = lines-through one modules table sphere h hq range all whole is_sphere full is_full a (canonical_less sphere (reach_of range by).s ((reach_of range by).t + 1) a.s (a.above + 1) are_q row_within (omega arith)) (place_there sphere (reach_of range by) by a near is) (omega arith) (omega arith) lines are;
-          is = told;
-        }))
+          are_lines = lines-through one modules table sphere h hq range all whole is_sphere full is_full a (canonical_less sphere (reach_of range by).s ((reach_of range by).t + 1) a.s (a.above + 1) are_q row_within (omega arith)) (place_there sphere (reach_of range by) by a near is) (omega arith) (omega arith) shape lines are;
+        })

@@ -9,7 +9,7 @@ ghost use Rattle.yoneda.specs.Products.{IsThere, class_above, AreProducts};
 ghost use Rattle.ext_products.specs.Products.{OneEach, classes_of, classes_in_row, factors};
 ghost use Rattle.ext_products.specs.Inside.{IsLineOver};
 
-use bidegree::{Place, Range};
+use bidegree::{Place, Range, Shape};
 use chain_map::Source;
 use ext_chart::ProductLine;
 use f2_vec::BitVec;
@@ -18,13 +18,14 @@ use square::Table;
 use std::alloc::Global;
 use yoneda::products;
 
-/// The lines on the products of `a` with the classes of the table, those products that are in the range, by row, by degree and by
-/// number.
+/// The lines on the products of `a` with the classes of the table, those products that are in the squares of the range that are of this
+/// shape, by row, by degree and by number.
 pub(crate) fn lines(
     alloc: Global,
     table: &Source<'_>,
     sphere: &Table,
     range: Range,
+    shape: Shape,
     a: Place,
 ) -> Result<Vec<ProductLine>, Memory>
     requires table { IsThrough range table.now.rows }
@@ -35,21 +36,23 @@ pub(crate) fn lines(
     requires row { a.s ≤ range.s }
     requires degree { a.above ≤ range.t }
     ensures { IfOk result (λ lines. OneEach (IsLineOver table.now sphere.now a)
-        (factors (resolution_of table.now) range (class_above a)) lines.items) }
+        (factors (resolution_of table.now) shape range (class_above a)) lines.items) }
 {
     let mut lines = Vec::new(alloc);
     for s in 0..range.s - a.s + 1 {
-        add_row(alloc, table, sphere, range, a, s, &mut lines)?;
+        let last = shape.last_degree(range, s + a.s);
+        add_row(alloc, table, sphere, range, last, a, s, &mut lines)?;
     }
     Ok(lines)
 }
 
-/// Adds the lines of row `s`.
+/// Adds the lines of row `s`, whose products are in degrees at most `last` above the bottom.
 fn add_row(
     alloc: Global,
     table: &Source<'_>,
     sphere: &Table,
     range: Range,
+    last: u16,
     a: Place,
     s: u16,
     lines: &mut Vec<ProductLine>,
@@ -60,13 +63,13 @@ fn add_row(
     requires rows { range.s ≤ MAX_S }
     requires degrees { range.t ≤ MAX_T }
     requires row { a.s + s ≤ range.s }
-    requires degree { a.above ≤ range.t }
+    requires last { last ≤ range.t }
     ensures { OnOk result ((before : List ClassAbove) →
         OneEach (IsLineOver table.now sphere.now a) before lines.old.items →
         OneEach (IsLineOver table.now sphere.now a)
-        (before ++ classes_in_row (resolution_of table.now) (range.t + 1 - a.above) s) lines.new.items) }
+        (before ++ classes_in_row (resolution_of table.now) (last + 1 - a.above) s) lines.new.items) }
 {
-    for above in 0..range.t - a.above + 1 {
+    for above in 0..(last + 1).saturating_sub(a.above) {
         let values = products(alloc, table, sphere, range, a, s, above)?;
         add_square(alloc, table, sphere, a, s, above, values.as_slice(), lines)?;
     }

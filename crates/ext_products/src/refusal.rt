@@ -18,6 +18,8 @@ pub enum Named {
     B,
     /// The third, of the module.
     C,
+    /// The class of the module that one of the sphere is multiplied with.
+    X,
 }
 
 /// A product of two of the classes of a bracket <a, b, c>.
@@ -36,6 +38,8 @@ pub enum Target {
     Product(Pair),
     /// The bracket.
     Bracket,
+    /// The product of a class of the sphere with one of the module.
+    Ax,
 }
 
 /// Why there is nothing to tell of the classes that are asked for.

@@ -2,7 +2,7 @@
 //! The programs over it are what is run of it, each on words of its own: `ext_main` and `ext_spared`.
 #![tactic(auto)]
 
-ghost use Rattle.std.specs.Prelude.{◌≡◌, ◌≢◌, ◌∷◌, [], ◌↔◌, IsTrue, take, drop, map, string_bytes, codes, Err, IfOk, IfErr};
+ghost use Rattle.std.specs.Prelude.{◌≡◌, ◌≢◌, ◌∷◌, [], ◌↔◌, IsTrue, take, drop, map, string_bytes, codes, true, Err, IfOk, IfErr};
 ghost use Rattle.std.specs.IoError.{error_kind};
 ghost use Rattle.std.specs.Process.{exit_status};
 ghost use Rattle.std.specs.Vec.Iter.{into_iter_items};
@@ -105,7 +105,7 @@ fn on_save_file<
 ) -> ExitCode
     ensures answered { IfOk arguments (λ all. (between : E) × (after : D) × IsRun (device_of S.left S.faults)
         (device_of O.written O.faults) (device_of E.written E.faults)
-        (store_of D.now D.moment D.images D.images_at D.since D.faults) (asked_by (map string_bytes all.items))
+        (store_of D.now D.moment D.images D.images_at D.since D.faults) (asked_by (map string_bytes all.items)) true
         (exit_status result) source.old source.new out.old out.new err.old between disk after
         × ((behind : E) × HasToldFault E.written E.faults (exit_status result) (D.fault after) between behind
         × HasRemarked E.written E.faults (exit_status result) (map string_bytes all.items) behind err.new)) }
@@ -150,7 +150,7 @@ fn on_streams<W: Threads + Wait + Clock + Sync, S: Source, O: Sink, E: Sink + Se
 ) -> Ended<D>
     ensures answered { IfOk arguments.now (λ all. IsRun (device_of S.left S.faults) (device_of O.written O.faults)
         (device_of E.written E.faults) (store_of D.now D.moment D.images D.images_at D.since D.faults)
-        (asked_by (map string_bytes all.items)) result.status
+        (asked_by (map string_bytes all.items)) true result.status
         source.old source.new out.old out.new err.old err.new disk result.disk) }
     ensures refused { IfErr arguments.now (λ failure. (source.new ≡ source.old) × (out.new ≡ out.old)
         × HasTold E.written E.faults failure result.status err.old err.new × (result.disk ≡ disk)) }
@@ -176,7 +176,7 @@ fn answer<W: Threads + Wait + Clock + Sync, S: Source, O: Sink, E: Sink + Send, 
 ) -> Ended<D>
     ensures { IsRun (device_of S.left S.faults) (device_of O.written O.faults) (device_of E.written E.faults)
         (store_of D.now D.moment D.images D.images_at D.since D.faults) (asked_by (map string_bytes arguments.now))
-        result.status source.old source.new out.old out.new err.old err.new disk result.disk }
+        true result.status source.old source.new out.old out.new err.old err.new disk result.disk }
 {
     match words(alloc, arguments) {
         Ok(words) => run(

@@ -21,11 +21,11 @@ use Rattle.save_file.specs.declared.fault.ResumeFault.TheVariants.{Open, Strange
 use Rattle.cert_check.specs.declared.fault.CertFault.{CertFault}
 use Rattle.cert_check.specs.declared.fault.CertFault.TheVariants.{Missing, NoQuasi, Inexact, NotMinimal}
 use Rattle.ext_products.specs.declared.refusal.Named.{Named}
-use Rattle.ext_products.specs.declared.refusal.Named.TheVariants.{By, A, B, C}
+use Rattle.ext_products.specs.declared.refusal.Named.TheVariants.{By, A, B, C, X}
 use Rattle.ext_products.specs.declared.refusal.Pair.{Pair}
 use Rattle.ext_products.specs.declared.refusal.Pair.TheVariants.{Ab, Bc}
 use Rattle.ext_products.specs.declared.refusal.Target.{Target}
-use Rattle.ext_products.specs.declared.refusal.Target.TheVariants.{Product, Bracket}
+use Rattle.ext_products.specs.declared.refusal.Target.TheVariants.{Product, Bracket, Ax}
 use Rattle.ext_products.specs.declared.refusal.Refusal.{Refusal}
 use Rattle.ext_products.specs.declared.refusal.Refusal.TheVariants.{NoClass, OutOfRange, Nonzero}
 use Rattle.ext_chart.specs.Classes.{class_text, class_sum_text}
@@ -138,6 +138,7 @@ named_text By = codes "by"
 named_text A = codes "a"
 named_text B = codes "b"
 named_text C = codes "c"
+named_text X = codes "x"
 
 abbrev pub pair_text : Pair → List ℕ
 pair_text Ab = codes "ab"
@@ -146,6 +147,7 @@ pair_text Bc = codes "bc"
 abbrev pub target_text : Target → List ℕ
 target_text (Product pair) = pair_text pair
 target_text Bracket = codes "value"
+target_text Ax = codes "ax"
 
 -- why there is nothing to tell of classes
 abbrev pub class_line : Refusal → List ℕ

@@ -315,6 +315,7 @@ fn named_text(named: &Named) -> &[u8]
         Named::A => b"a",
         Named::B => b"b",
         Named::C => b"c",
+        Named::X => b"x",
     }
 }
 
@@ -335,6 +336,7 @@ fn target_text(target: &Target) -> &[u8]
     match target {
         Target::Product(pair) => pair_text(pair),
         Target::Bracket => b"value",
+        Target::Ax => b"ax",
     }
 }
 

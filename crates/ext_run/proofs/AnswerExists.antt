@@ -34,7 +34,8 @@ use Rattle.ext_chart.specs.Check.{check_line}
 use Rattle.ext_chart.specs.Files.{migrated_line}
 use Rattle.ext_chart.specs.Product.{product_text}
 use Rattle.lift_laws.specs.Lifts.{IsCanonical}
-use Rattle.ext_products.specs.Products.{resolution, Telling, HasAnswer, IsProductsAnswer}
+use Rattle.ext_products.specs.Products.{resolution, Telling, HasAnswer, IsOneProductAnswer}
+use Rattle.ext_table.specs.Layouts.{told_in, EachLayoutHasAnswer}
 use Rattle.ext_brackets.specs.Brackets.{IsBracketAnswer}
 use Rattle.ext_products.proofs.SphereTables.{sphere-is}
 use Rattle.ext_report.specs.declared.failure.Failure.{Failure}
@@ -43,15 +44,17 @@ use Rattle.read_module.specs.Input.{HasValue}
 use Rattle.ext_build.proofs.BuildAnswers.{build_answer_exists}
 use Rattle.ext_run.specs.declared.plan.Origin.{Origin}
 use Rattle.ext_run.specs.declared.plan.Origin.TheVariants.{Sphere, Sample, File as OfFile}
+use Rattle.ext_run.specs.declared.plan.Sought.{Sought}
+use Rattle.ext_run.specs.declared.plan.Sought.TheVariants.{Product, Bracket}
 use Rattle.ext_run.specs.declared.plan.Form.{Form}
-use Rattle.ext_run.specs.declared.plan.Form.TheVariants.{Squares, Products as ProductsOf, Bracket as BracketOf}
+use Rattle.ext_run.specs.declared.plan.Form.TheVariants.{Squares, Products as ProductsOf, Sought as ToTell}
 use Rattle.ext_run.specs.declared.plan.Plan.{Plan}
-use Rattle.ext_run.specs.declared.plan.Plan.TheVariants.{Resolve, Check, Build, Multiply, Migrate, Verify}
+use Rattle.ext_run.specs.declared.plan.Plan.TheVariants.{Resolve, Seek, Check, Build, Multiply, Migrate, Verify}
 use Rattle.ext_run.specs.declared.task.Task.{Task}
 use Rattle.ext_run.specs.declared.task.Task.TheVariants.{Text, Resolution, Migration, Verification}
-use Rattle.ext_run.specs.Plan.{asked_by, IsRead, PlanReads, Reads}
-use Rattle.ext_run.specs.Forms.{IsResolved, IsReadOff, IsVerifiedChart, sheet_of, verified_of, IsText, IsToldOfClasses, told_of_classes, IsInForm}
-use Rattle.ext_run.specs.Answer.{IsLineOn, IsMigrated, IsProduct, ModuleAnswers, IsModuleAnswer, IsAnswerAt, IsAnswerTo, IsAskedAnswer}
+use Rattle.ext_run.specs.Plan.{range_for, asked_by, IsRead, PlanReads, Reads}
+use Rattle.ext_run.specs.Forms.{IsResolved, IsReadOff, IsVerifiedChart, sheet_of, verified_of, IsText, IsToldOfClasses, told_of_classes, IsSoughtAnswer, IsInForm}
+use Rattle.ext_run.specs.Answer.{IsLineOn, IsMigrated, IsProduct, IsFound, ModuleAnswers, IsModuleAnswer, IsAnswerAt, IsAnswerTo, IsAskedAnswer}
 use Rattle.ext_run.specs.Task.{HasItsAnswer}
 use Rattle.ext_run.specs.Existence.{AnswerExists}
 
@@ -64,7 +67,8 @@ pub record TableLaws : Type 0 where
 
 pub record Laws : Type 0 where
   pub tables : TableLaws
-  pub products : (range : Range) (by : List Class) → HasAnswer (IsProductsAnswer range by) range
+  pub products : EachLayoutHasAnswer
+  pub one_product : (range : Range) (a x : Class) → HasAnswer (IsOneProductAnswer range a x) range
   pub brackets : (range : Range) (a b c : Class) → HasAnswer (IsBracketAnswer range a b c) range
 
 -- ---- the table
@@ -123,10 +127,17 @@ classes_exist laws IsToldOf range tells m is order =
     let told = tells (resolution m table.0) (resolution sphere_module sphere.0) r q (sphere-is sphere.0) in
     (told_of_classes told.0, record { table = table.0; resolved = table.1; sphere = sphere.0; sphere_resolved = sphere.1; told = told.0; is_told = told.1; is = refl })
 
+sought_exists : Laws → (sought : Sought) (range : Range) → HasAnswer (IsSoughtAnswer sought range) range
+sought_exists laws (Product a x) range = laws.one_product range a x
+sought_exists laws (Bracket a b c) range = laws.brackets range a b c
+
 form_exists : Laws → (form : Form) (range : Range) → Makes (IsInForm form range)
 form_exists laws (Squares sheet shape) range = read_off_exists laws.tables (sheet_of sheet shape range) range
-form_exists laws (ProductsOf by) range = classes_exist laws.tables (IsProductsAnswer range by) range (laws.products range by)
-form_exists laws (BracketOf a b c) range = classes_exist laws.tables (IsBracketAnswer range a b c) range (laws.brackets range a b c)
+form_exists laws (ProductsOf layout by shape) range = classes_exist laws.tables (told_in layout shape range by) range (laws.products layout shape range by)
+form_exists laws (ToTell sought) range = classes_exist laws.tables (IsSoughtAnswer sought range) range (sought_exists laws sought range)
+
+found_exists : Laws → (sought : Sought) → Makes (IsFound sought)
+found_exists laws sought m is order = form_exists laws (ToTell sought) (range_for sought m) m is order
 
 -- the file of bytes that have a value
 file_of_value : (bytes : List ℕ) → HasValue bytes → (file : Result File Malformed) × IsFileOf bytes file
@@ -159,6 +170,7 @@ module _ (accepted : AcceptedIsModule) (P : ModuleAnswers) (made : Makes P) wher
 
 to_plan : Laws → AdmissibleFormIsUnique → (plan : Plan) (bytes : List ℕ) → (PlanReads plan → HasValue bytes) → (answer : Result (List ℕ) Failure) × IsAnswerTo plan bytes answer
 to_plan laws forms (Resolve origin form common) bytes has = at_origin laws.tables.accepted (IsInForm form common.range) (form_exists laws form common.range) origin bytes has
+to_plan laws forms (Seek sought workers) bytes has = of_bytes laws.tables.accepted (IsFound sought) (found_exists laws sought) bytes (has tt)
 to_plan laws forms Check bytes has = of_bytes laws.tables.accepted (IsText IsLineOn) line_exists bytes (has tt)
 to_plan laws forms (Build made) bytes has = build_answer_exists made bytes (has tt)
 to_plan laws forms (Multiply numbers) bytes has = let x = product_exists forms numbers in (Ok x.0, x.1)

@@ -20,22 +20,25 @@ use Rattle.resolution_laws.specs.Resolution.{Content}
 use Rattle.resolution_laws.proofs.TableIsUnique.{table_is_unique}
 use Rattle.square.specs.Squares.{module_over}
 use Rattle.ext_chart.specs.Product.{product_text}
-use Rattle.ext_products.specs.Products.{resolution, Telling, HasOneAnswer, IsProductsAnswer}
-use Rattle.ext_products.proofs.Several.{answers-unique}
-use Rattle.ext_brackets.specs.Brackets.{IsBracketAnswer}
+use Rattle.ext_products.specs.Products.{resolution, Telling, HasOneAnswer}
+use Rattle.ext_products.proofs.OneProduct.{one_answers-unique}
+use Rattle.ext_table.specs.Layouts.{told_in}
+use Rattle.ext_table.proofs.Layouts.{layout-unique}
 use Rattle.ext_brackets.proofs.Unique.{answers-unique as bracket-answers-unique}
 use Rattle.ext_report.specs.declared.failure.Failure.{Failure}
 use Rattle.ext_report.specs.declared.failure.Failure.TheVariants.{NotModule}
 use Rattle.ext_build.proofs.BuildAnswers.{build_answer_unique}
 use Rattle.ext_run.specs.declared.plan.Origin.{Origin}
 use Rattle.ext_run.specs.declared.plan.Origin.TheVariants.{Sphere, Sample, File as OfFile}
+use Rattle.ext_run.specs.declared.plan.Sought.{Sought}
+use Rattle.ext_run.specs.declared.plan.Sought.TheVariants.{Product, Bracket}
 use Rattle.ext_run.specs.declared.plan.Form.{Form}
-use Rattle.ext_run.specs.declared.plan.Form.TheVariants.{Squares, Products, Bracket}
+use Rattle.ext_run.specs.declared.plan.Form.TheVariants.{Squares, Products, Sought as ToTell}
 use Rattle.ext_run.specs.declared.plan.Plan.{Plan}
-use Rattle.ext_run.specs.declared.plan.Plan.TheVariants.{Resolve, Check, Build, Multiply, Migrate, Verify}
-use Rattle.ext_run.specs.Forms.{IsReadOff, IsVerifiedChart, sheet_of, verified_of, IsText, IsToldOfClasses, told_of_classes, IsInForm}
-use Rattle.ext_run.specs.Plan.{asked_by}
-use Rattle.ext_run.specs.Answer.{IsLineOn, IsMigrated, IsProduct, ModuleAnswers, IsAnswerOfFile, IsModuleAnswer, IsAnswerAt, IsAnswerTo, IsAskedAnswer, AnswerIsUnique}
+use Rattle.ext_run.specs.declared.plan.Plan.TheVariants.{Resolve, Seek, Check, Build, Multiply, Migrate, Verify}
+use Rattle.ext_run.specs.Forms.{IsReadOff, IsVerifiedChart, sheet_of, verified_of, IsText, IsToldOfClasses, told_of_classes, IsSoughtAnswer, IsInForm}
+use Rattle.ext_run.specs.Plan.{range_for, asked_by}
+use Rattle.ext_run.specs.Answer.{IsLineOn, IsMigrated, IsProduct, IsFound, ModuleAnswers, IsAnswerOfFile, IsModuleAnswer, IsAnswerAt, IsAnswerTo, IsAskedAnswer, AnswerIsUnique}
 
 -- two texts that are made of tables of one module and range
 read_off_unique : (text_of : SteenrodModule → List (List Content) → List ℕ) (range : Range) (m : SteenrodModule) (x y : List ℕ) → IsReadOff text_of range m x → IsReadOff text_of range m y → x ≡ y
@@ -68,10 +71,17 @@ one-text IsTextOf texts m (Ok x) (Ok y) p q = ap (λ (t : List ℕ). Ok t) (text
 one-text IsTextOf texts m (Ok x) (Err e) p q = absurd q
 one-text IsTextOf texts m (Err e) b p q = absurd p
 
+sought_unique : (sought : Sought) (range : Range) → HasOneAnswer (IsSoughtAnswer sought range)
+sought_unique (Product a x) range = one_answers-unique range a x
+sought_unique (Bracket a b c) range = bracket-answers-unique row_basis_unique range a b c
+
 form_unique : (form : Form) (range : Range) → IsOne (IsInForm form range)
 form_unique (Squares sheet shape) range = one-text (IsReadOff (sheet_of sheet shape range) range) (read_off_unique (sheet_of sheet shape range) range)
-form_unique (Products by) range = classes-unique range (IsProductsAnswer range by) (answers-unique range by)
-form_unique (Bracket a b c) range = classes-unique range (IsBracketAnswer range a b c) (bracket-answers-unique row_basis_unique range a b c)
+form_unique (Products layout by shape) range = classes-unique range (told_in layout shape range by) (layout-unique layout shape range by)
+form_unique (ToTell sought) range = classes-unique range (IsSoughtAnswer sought range) (sought_unique sought range)
+
+found_unique : (sought : Sought) → IsOne (IsFound sought)
+found_unique sought m x y p q = form_unique (ToTell sought) (range_for sought m) m x y p q
 
 module _ (P : ModuleAnswers) (one : IsOne P) where
   of_refusal : (f : File) (found : Option CheckFault) (a b : Result (List ℕ) Failure) → MatchOption found (P (derived_module f) a) (λ e. a ≡ Err (NotModule f e)) → MatchOption found (P (derived_module f) b) (λ e. b ≡ Err (NotModule f e)) → a ≡ b
@@ -94,6 +104,7 @@ module _ (P : ModuleAnswers) (one : IsOne P) where
 
 plan_unique : (plan : Plan) (bytes : List ℕ) (a b : Result (List ℕ) Failure) → IsAnswerTo plan bytes a → IsAnswerTo plan bytes b → a ≡ b
 plan_unique (Resolve origin form common) bytes a b p q = at_unique (IsInForm form common.range) (form_unique form common.range) origin bytes a b p q
+plan_unique (Seek sought workers) bytes a b p q = module_answer_unique (IsFound sought) (found_unique sought) bytes a b p q
 plan_unique Check bytes a b p q = module_answer_unique (IsText IsLineOn) (one-text IsLineOn (λ m x y s t. s ∙ sym t)) bytes a b p q
 plan_unique (Build made) bytes a b p q = build_answer_unique made bytes a b p q
 plan_unique (Multiply numbers) bytes a b p q = one-text (λ m. IsProduct numbers) (λ m. product-unique numbers) (derived_module sphere_file) a b p q

@@ -21,8 +21,7 @@ use Rattle.module_check.specs.declared.fault.CheckFault.{CheckFault}
 use Rattle.space_laws.specs.Spaces.{IsSpaceFile}
 use Rattle.space_laws.proofs.Files.{files_are_accepted}
 use Rattle.ext_products.specs.declared.refusal.Refusal.{Refusal}
-use Rattle.ext_products.specs.Products.{IsProductsAnswer}
-use Rattle.ext_brackets.specs.Brackets.{IsBracketAnswer}
+use Rattle.ext_table.specs.Layouts.{told_in}
 use Rattle.lift_laws.specs.Lifts.{Resolution as Resolved}
 use Rattle.ext_words.specs.declared.command.Build.{Build as Made}
 use Rattle.ext_report.specs.declared.failure.Failure.{Failure}
@@ -34,15 +33,16 @@ use Rattle.read_module.proofs.Reading.{most_read-is}
 use Rattle.ext_build.proofs.BuildAnswers.{build_fits}
 use Rattle.ext_run.specs.declared.plan.Origin.{Origin}
 use Rattle.ext_run.specs.declared.plan.Origin.TheVariants.{Sphere, Sample, File as OfFile}
+use Rattle.ext_run.specs.declared.plan.Sought.{Sought}
 use Rattle.ext_run.specs.declared.plan.Form.{Form}
-use Rattle.ext_run.specs.declared.plan.Form.TheVariants.{Squares, Products, Bracket}
+use Rattle.ext_run.specs.declared.plan.Form.TheVariants.{Squares, Products, Sought as ToTell}
 use Rattle.ext_run.specs.declared.plan.Plan.{Plan}
-use Rattle.ext_run.specs.declared.plan.Plan.TheVariants.{Resolve, Check, Build, Multiply, Migrate, Verify}
+use Rattle.ext_run.specs.declared.plan.Plan.TheVariants.{Resolve, Seek, Check, Build, Multiply, Migrate, Verify}
 use Rattle.ext_run.specs.declared.task.Task.{Task}
 use Rattle.ext_run.specs.declared.task.Task.TheVariants.{Text, Resolution, Migration, Verification}
-use Rattle.ext_run.specs.Plan.{IsModuleIn, IsModuleAt, IsModuleOf, IsModuleFor, PlanReads, Reads}
-use Rattle.ext_run.specs.Forms.{IsReadOff, IsVerifiedChart, sheet_of, IsText, IsToldOfClasses, told_of_classes, IsInForm}
-use Rattle.ext_run.specs.Answer.{IsLineOn, IsMigrated, ModuleAnswers, IsAnswerOfFile, IsModuleAnswer, IsAnswerAt, IsAnswerTo, IsAskedAnswer}
+use Rattle.ext_run.specs.Plan.{range_for, IsModuleIn, IsModuleAt, IsModuleOf, IsModuleFor, PlanReads, Reads}
+use Rattle.ext_run.specs.Forms.{IsReadOff, IsVerifiedChart, sheet_of, IsText, IsToldOfClasses, told_of_classes, IsSoughtAnswer, IsInForm}
+use Rattle.ext_run.specs.Answer.{IsLineOn, IsMigrated, IsFound, ModuleAnswers, IsAnswerOfFile, IsModuleAnswer, IsAnswerAt, IsAnswerTo, IsAskedAnswer}
 use Rattle.ext_run.specs.Task.{IsDoneBy}
 
 -- ---- an answer of what is resolved is a text, or a failure of classes
@@ -63,8 +63,11 @@ classes_told range IsToldOf m answer p = subst IsTold (sym p.is) (one_told p.tol
 
 form_told : (form : Form) (range : Range) → OnlyTold (IsInForm form range)
 form_told (Squares sheet shape) range = text_told (IsReadOff (sheet_of sheet shape range) range)
-form_told (Products by) range = classes_told range (IsProductsAnswer range by)
-form_told (Bracket a b c) range = classes_told range (IsBracketAnswer range a b c)
+form_told (Products layout by shape) range = classes_told range (told_in layout shape range by)
+form_told (ToTell sought) range = classes_told range (IsSoughtAnswer sought range)
+
+found_told : (sought : Sought) → OnlyTold (IsFound sought)
+found_told sought m answer p = form_told (ToTell sought) (range_for sought m) m answer p
 
 pub task_told : (task : Task) (answer : Result (List ℕ) Failure) → IsDoneBy task answer → IsTold answer
 task_told (Text made) answer is = subst IsTold (sym is) tt
@@ -97,6 +100,7 @@ module _ (P : ModuleAnswers) (only : OnlyTold P) where
 
 plan_told : (plan : Plan) (bytes : List ℕ) (m : SteenrodModule) (a : Result (List ℕ) Failure) → IsModuleOf plan bytes m → IsAnswerTo plan bytes a → IsTold a
 plan_told (Resolve origin form common) bytes m a q p = at_told (IsInForm form common.range) (form_told form common.range) origin bytes m a q p
+plan_told (Seek sought workers) bytes m a q p = module_told (IsFound sought) (found_told sought) bytes m a q p
 plan_told Check bytes m a q p = module_told (IsText IsLineOn) (text_told IsLineOn) bytes m a q p
 plan_told Migrate bytes m a q p = module_told (IsText IsMigrated) (text_told IsMigrated) bytes m a q p
 plan_told (Verify range) bytes m a q p = module_told (IsText (IsVerifiedChart range)) (text_told (IsVerifiedChart range)) bytes m a q p
@@ -125,6 +129,7 @@ space_at form range OfFile bytes f e a space p h = space_told (IsInForm form ran
 
 space_plan : (plan : Plan) (bytes : List ℕ) (f : File) (e : CheckFault) (a : Result (List ℕ) Failure) → IsSpaceFile bytes → IsAnswerTo plan bytes a → a ≡ Err (NotModule f e) → ⊥
 space_plan (Resolve origin form common) bytes f e a space p h = space_at form common.range origin bytes f e a space p h
+space_plan (Seek sought workers) bytes f e a space p h = space_told (IsFound sought) (found_told sought) bytes p.file f e a space p.is_file p.is_answer h
 space_plan Check bytes f e a space p h = space_told (IsText IsLineOn) (text_told IsLineOn) bytes p.file f e a space p.is_file p.is_answer h
 space_plan (Build made) bytes f e a space p h = space_not_built made bytes f e a space p h
 space_plan (Multiply numbers) bytes f e a space p h = subst (IsAnswerTo (Multiply numbers) bytes) h p
@@ -147,6 +152,7 @@ module_fits P bytes (Err e) a told is p = absurd (subst IsTold p told)
 
 plan_fits : (plan : Plan) (bytes : List ℕ) (a : Result (List ℕ) Failure) → IsTold a → PlanReads plan → IsAnswerTo plan bytes a → length bytes ≤ 2 ^ 20
 plan_fits (Resolve OfFile form common) bytes a told reads p = module_fits (IsInForm form common.range) bytes p.file a told p.is_file p.is_answer
+plan_fits (Seek sought workers) bytes a told reads p = module_fits (IsFound sought) bytes p.file a told p.is_file p.is_answer
 plan_fits Check bytes a told reads p = module_fits (IsText IsLineOn) bytes p.file a told p.is_file p.is_answer
 plan_fits (Build made) bytes a told reads p = build_fits made bytes a told p
 plan_fits Migrate bytes a told reads p = module_fits (IsText IsMigrated) bytes p.file a told p.is_file p.is_answer

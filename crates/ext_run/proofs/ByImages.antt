@@ -1,6 +1,6 @@
 -- The sheets that are made from images of a canonical resolution are those of the resolution.
 use Rattle.std.specs.Prelude.{IfOk, Result, Ok, Err}
-use Rattle.std.proofs.Common.{◌≡◌, ℕ, ◌+◌, List, length, map, sym, subst, ap, ◌∙◌, arith}
+use Rattle.std.proofs.Common.{◌≡◌, ℕ, ◌+◌, List, length, map, sym, subst, ap, ◌∙◌, arith, inl, inr}
 use Rattle.std.proofs.lemmas.List.{length-map}
 use Rattle.bidegree.specs.declared.range.Range.{Range}
 use Rattle.bidegree.specs.declared.shape.Shape.{Shape}
@@ -37,6 +37,7 @@ module _ (exists : CanonicalTableExists) (minimal : CanonicalTableIsMinimalResol
   of_rectangle : (shape : Shape) (images : BareTable) → images.resolved ≡ m → AreOfCanonical (over m) range.s range.t images.rows → AreOfResolution shape range m images
   of_rectangle shape images same h = record {
     resolved = same;
+    are = inl h;
     through = λ s l.
         let r = resolved in
         let row = ap length (row_bare (over m) range.s range.t images.rows r.0 r.1.canonical h s l) in
@@ -51,6 +52,7 @@ module _ (exists : CanonicalTableExists) (minimal : CanonicalTableIsMinimalResol
       λ table canonical. subst (λ (t : ℕ). IsCanonicalTable (over m) range.s t table) (sym e) canonical in
       record {
         resolved = same;
+        are = inr (n, e, h);
         through = λ s l.
             let r = resolved in
             let c = there r.0 r.1.canonical in

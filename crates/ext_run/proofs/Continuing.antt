@@ -17,13 +17,13 @@ use Rattle.square.specs.Growing.{HasGrown}
 use Rattle.square.specs.Keeping.{Keeper, HoldsTable}
 use Rattle.resolution_step.specs.Alone.{HasResolved}
 use Rattle.ext_products.specs.declared.refusal.Refusal.{Refusal}
-use Rattle.ext_products.specs.Products.{IsProductsAnswer}
-use Rattle.ext_brackets.specs.Brackets.{IsBracketAnswer, IsOfPlaces}
+use Rattle.ext_table.specs.Layouts.{told_in}
+use Rattle.ext_brackets.specs.Brackets.{IsOfPlaces}
 use Rattle.ext_report.specs.declared.failure.Failure.{Failure}
 use Rattle.ext_report.specs.declared.failure.Failure.TheVariants.{Saving, Classes, Memory}
 use Rattle.ext_run.specs.declared.plan.Form.{Form}
-use Rattle.ext_run.specs.declared.plan.Form.TheVariants.{Products, Bracket}
-use Rattle.ext_run.specs.Forms.{IsResolved, IsInForm, IsRefusedOver, IsRefusalWith, IsRefusedIn}
+use Rattle.ext_run.specs.declared.plan.Form.TheVariants.{Products, Sought as ToTell}
+use Rattle.ext_run.specs.Forms.{IsResolved, IsSoughtAnswer, IsInForm, IsRefusedOver, IsRefusalWith, IsRefusedIn}
 use Rattle.ext_run.specs.Saving.{HasRange}
 use Rattle.ext_run.specs.Work.{Told, HasAnswer, answer_of, HasContinued}
 use Rattle.ext_report.specs.Failure.{IsOfClasses}
@@ -74,8 +74,8 @@ refusal_classes Holds (Classes refusal) h = tt
 refusal_classes Holds e h = absurd h
 
 pub refused_classes : (form : Form) (range : Range) (m : SteenrodModule) (e : Failure) → IsRefusedIn form range m (Err e) → IsOfClasses e
-refused_classes (Products by) range m e h = refusal_classes (IsRefusedOver (IsProductsAnswer range by) range m) e h
-refused_classes (Bracket a b c) range m e h = refusal_classes (λ refusal. IsOfPlaces refusal → IsRefusedOver (IsBracketAnswer range a b c) range m refusal) e h
+refused_classes (Products layout by shape) range m e h = refusal_classes (IsRefusedOver (told_in layout shape range by) range m) e h
+refused_classes (ToTell sought) range m e h = refusal_classes (λ refusal. IsOfPlaces refusal → IsRefusedOver (IsSoughtAnswer sought range) range m refusal) e h
 refused_classes form range m e h = absurd h
 
 -- why a table that was continued is not told of
@@ -106,3 +106,17 @@ continued {E = E} failing wanting order range form table resolved old new made m
       places = done.given.places;
       kept = done.given.kept;
     }
+
+-- a table that was not continued, since its keeper failed
+pub cut_off : {E : Type 0} (failing wanting : E) (order : Entry → Entry → Type 0) (range : Range) (form : Form) (table : Staircase) (resolved : Result Staircase E) (old new : Keeper) → HasResolved failing wanting order range table resolved old new → resolved ≡ Err failing → HasContinued range form table (Err Saving) old new
+cut_off failing wanting order range form table resolved old new made is = record {
+  told = λ has. absurd has;
+  why = inl refl;
+  failed = λ e. made.keeper.failed is;
+  no_fault = λ other. absurd (other refl);
+  live = λ other. absurd (other refl);
+  whole = λ has. absurd has;
+  given = made.given.given;
+  places = made.given.places;
+  kept = made.given.kept;
+}

@@ -1,5 +1,5 @@
 -- What a run promises, by how it ends: by a text that answers the words, or by a failure, which may be an answer too.
-use Rattle.std.proofs.Common.{◌≡◌, ◌≢◌, ℕ, ◌≤◌, ◌⊎◌, inl, inr, List, Option, None, IfSome, refl, sym, subst, ap}
+use Rattle.std.proofs.Common.{◌≡◌, ◌≢◌, ℕ, ◌≤◌, ◌⊎◌, inl, inr, Bool, true, List, Option, None, IfSome, refl, sym, subst, ap}
 use Rattle.std.specs.declared.alloc.Global.{Global}
 use Rattle.std.specs.Prelude.{Vec, Result, Ok, Err, IfOk, IfErr, OnOk, OnErr}
 use Rattle.edge.specs.Faults.{HasRisen}
@@ -21,6 +21,7 @@ use Rattle.ext_run.specs.Answer.{IsAskedAnswer, IsTaskCause, IsTaskCauseFrom}
 use Rattle.ext_run.specs.Disks.{Outcome, IsUsable, IsCertified}
 use Rattle.ext_run.specs.Task.{HasItsAnswer, IsTaskFor}
 use Rattle.ext_run.specs.Work.{Told, HasAnswer, answer_of, HasWorked}
+use Rattle.ext_run.specs.Courses.{HasTaskCourse}
 use Rattle.ext_run.specs.Ending.{HasTold, HasGotWhole, HasGotPart}
 use Rattle.ext_run.specs.Live.{live_in, HasHeard}
 use Rattle.ext_run.specs.Run.{IsCause, IsPrevented, HasRead, HasPrinted, HasReported, HasSaid, IsRun}
@@ -29,7 +30,8 @@ use Rattle.ext_run.proofs.AnswerUnique.{asked_unique}
 use Rattle.ext_run.proofs.Reporting.{reported_early, reported_task}
 use Rattle.ext_run.proofs.Tasks.{task_answers, input_of}
 use Rattle.ext_run.proofs.Lasting.{AreDisks}
-use Rattle.ext_run.proofs.Saved.{IsLate, saving, save_file, certificate, classes, memory, IsEndedBy, IsWorked, worked, kept_early, after_text, after_cut}
+use Rattle.ext_run.proofs.Saved.{IsLate, saving, save_file, certificate, classes, memory, IsEndedBy, IsWorked, worked, kept_early, after_text, after_cut, after_failure}
+use Rattle.ext_run.proofs.Courses.{early_course, task_course}
 
 -- what becomes of the source if its words have a task
 pub record IsRead {S : Type 0} (source : Device S) (reads : Type 0) (s t : S) : Type 0 where
@@ -52,7 +54,7 @@ pub record IsReadFor {S : Type 0} (source : Device S) (reads : Type 0) (failure 
 abbrev HasNoSpace : List ℕ → Failure → Type 0
 HasNoSpace input failure = IsSpaceFile input → (file : File) (fault : CheckFault) → ◌≡◌ {A = Outcome} (Err failure) (Err (NotModule file fault)) → ⊥
 
-module _ {S O E D : Type 0} (source : Device S) (out : Device O) (err : Device E) (disk : Store D) (laws : AreDisks disk) (asked : Option Plan) (s t : S) (e f : E) (d : D) where
+module _ {S O E D : Type 0} (source : Device S) (out : Device O) (err : Device E) (disk : Store D) (laws : AreDisks disk) (asked : Option Plan) (has_workers : Bool) (s t : S) (e f : E) (d : D) where
   -- the line of a failure
   reported : (failure : Failure) (status : ℕ) → HasTold err.shows err.faults failure status e f → HasReported err (live_for asked) (Err failure) e f
   reported failure status told = reported_early err (live_for asked) failure e f (record { status_is = refl; line = told.line; whole_line = told.whole_line; never_falls = told.never_falls })
@@ -100,7 +102,7 @@ module _ {S O E D : Type 0} (source : Device S) (out : Device O) (err : Device E
       let same : failure ≡ NotModule file fault = cc in
       space_asked asked input file fault space (subst (IsTaskCause asked (λ x. IsAskedAnswer asked input (Err x))) same p)
 
-  pub run_of_failure : (failure : Failure) (status : ℕ) (o : O) → IsTaskCauseFrom asked (source.shows s) failure → IsReadFor source (Reads asked) failure s t → HasTold err.shows err.faults failure status e f → IsRun source out err disk asked status s t o o e f d d
+  pub run_of_failure : (failure : Failure) (status : ℕ) (o : O) → IsTaskCauseFrom asked (source.shows s) failure → IsReadFor source (Reads asked) failure s t → HasTold err.shows err.faults failure status e f → IsRun source out err disk asked has_workers status s t o o e f d d
   run_of_failure failure status o from read told =
       let input = input_of asked (source.shows s) failure from in
       let end = early_end input.bytes o failure input.holds in
@@ -112,6 +114,7 @@ module _ {S O E D : Type 0} (source : Device S) (out : Device O) (err : Device E
         cause = end.cause;
         comes = λ answer is usable. end.comes answer is;
         no_space_refused = no_space input.bytes failure input.holds;
+        worked = λ is. early_course disk asked input.bytes failure d input.holds;
         read = record {
           unread = read.unread;
           given = read.given;
@@ -153,8 +156,8 @@ module _ {S O E D : Type 0} (source : Device S) (out : Device O) (err : Device E
     made_answers text did has usable = task_answers asked input task (answer_of text) is_task (did.made has usable)
 
     -- the text is written whole
-    run_of_text : (x : Vec ℕ Global) → IsWorked disk laws asked input (Ok x) task d g → HasGotWhole out.shows out.faults x.items o p → status ≡ 0 → HasReported err (live_for asked) (Ok x.items) e f → IsRun source out err disk asked status s t o p e f d g
-    run_of_text x did got is reported = record {
+    run_of_text : (x : Vec ℕ Global) → IsWorked disk laws asked input (Ok x) task d g → (has_workers ≡ true → HasTaskCourse disk task (Ok x) d g) → HasGotWhole out.shows out.faults x.items o p → status ≡ 0 → HasReported err (live_for asked) (Ok x.items) e f → IsRun source out err disk asked has_workers status s t o p e f d g
+    run_of_text x did made got is reported = record {
       input = input;
       told = all;
       outcome = Ok x.items;
@@ -162,6 +165,7 @@ module _ {S O E D : Type 0} (source : Device S) (out : Device O) (err : Device E
       cause = made_answers (Ok x) did tt;
       comes = λ answer right ready. inl (asked_unique asked input (Ok x.items) answer (made_answers (Ok x) did tt (ready (answer_told answer right)).0) right);
       no_space_refused = λ space file fault h. cc;
+      worked = λ is. task_course disk asked input task (Ok x) (Ok x.items) d g (after_text x) is_task (made is);
       read = has_read (Ok x.items) (λ h. cc);
       printed = got;
       reported = reported;
@@ -169,8 +173,8 @@ module _ {S O E D : Type 0} (source : Device S) (out : Device O) (err : Device E
     }
 
     -- it is not
-    run_of_part : (x : Vec ℕ Global) → IsWorked disk laws asked input (Ok x) task d g → HasGotPart out.shows out.faults x.items o p → status ≡ status_of Writing → HasReported err (live_for asked) (Err Writing) e f → IsRun source out err disk asked status s t o p e f d g
-    run_of_part x did got is reported = record {
+    run_of_part : (x : Vec ℕ Global) → IsWorked disk laws asked input (Ok x) task d g → (has_workers ≡ true → HasTaskCourse disk task (Ok x) d g) → HasGotPart out.shows out.faults x.items o p → status ≡ status_of Writing → HasReported err (live_for asked) (Err Writing) e f → IsRun source out err disk asked has_workers status s t o p e f d g
+    run_of_part x did made got is reported = record {
       input = input;
       told = all;
       outcome = Err Writing;
@@ -178,6 +182,7 @@ module _ {S O E D : Type 0} (source : Device S) (out : Device O) (err : Device E
       cause = tt;
       comes = λ answer right ready. inr (x.items, asked_unique asked input answer (Ok x.items) right (made_answers (Ok x) did tt (ready (answer_told answer right)).0));
       no_space_refused = λ space file fault h. cc;
+      worked = λ is. task_course disk asked input task (Ok x) (Err Writing) d g (after_cut x) is_task (made is);
       read = has_read (Err Writing) (λ h. cc);
       printed = (x.items, made_answers (Ok x) did tt, got);
       reported = reported;
@@ -198,8 +203,8 @@ module _ {S O E D : Type 0} (source : Device S) (out : Device O) (err : Device E
     late_end failure (classes x) made accepted certified = record { comes = λ answer right ready. inl (asked_unique asked input (Err (Classes x)) answer (made tt (ready (answer_told answer right)).0) right); printed = λ same. same; not_read = λ h. cc; no_space_refused = λ space file fault h. cc }
     late_end failure memory made accepted certified = record { comes = λ answer right ready. inr tt; printed = λ same. same; not_read = λ h. cc; no_space_refused = λ space file fault h. cc }
 
-    run_without : (failure : Failure) → IsWorked disk laws asked input (Err failure) task d g → IsEndedBy disk laws asked input failure d g → p ≡ o → status ≡ status_of failure → HasReported err (live_for asked) (Err failure) e f → IsRun source out err disk asked status s t o p e f d g
-    run_without failure did ended same is reported =
+    run_without : (failure : Failure) → IsWorked disk laws asked input (Err failure) task d g → (has_workers ≡ true → HasTaskCourse disk task (Err failure) d g) → IsEndedBy disk laws asked input failure d g → p ≡ o → status ≡ status_of failure → HasReported err (live_for asked) (Err failure) e f → IsRun source out err disk asked has_workers status s t o p e f d g
+    run_without failure did course ended same is reported =
         let made = made_answers (Err failure) did in
         let end = late_end failure ended.late made (λ ready. ended.accepted ready.0 ready.1) (λ ready. ended.certified ready.0 ready.1) in
         record {
@@ -210,6 +215,7 @@ module _ {S O E D : Type 0} (source : Device S) (out : Device O) (err : Device E
           cause = ended.cause made;
           comes = end.comes;
           no_space_refused = end.no_space_refused;
+          worked = λ is. task_course disk asked input task (Err failure) (Err failure) d g (after_failure failure ended.late) is_task (course is);
           read = has_read (Err failure) end.not_read;
           printed = end.printed same;
           reported = reported;
@@ -220,12 +226,12 @@ module _ {S O E D : Type 0} (source : Device S) (out : Device O) (err : Device E
       said : (text : Told) (outcome : Outcome) → OnOk outcome (OnErr text ⊥) → HasHeard err (live_in task) text heard e mid → HasSaid err heard outcome mid f → HasReported err (live_for asked) outcome e f
       said text outcome there h last = reported_task err asked input task text heard outcome e mid f is_task there h last
 
-      pub run_of_task : (text : Told) → HasWorked disk task text d g → HasHeard err (live_in task) text heard e mid
+      pub run_of_task : (text : Told) → HasWorked disk task text d g → (has_workers ≡ true → HasTaskCourse disk task text d g) → HasHeard err (live_in task) text heard e mid
           → IfOk text (λ x. (HasGotWhole out.shows out.faults x.items o p × (status ≡ 0) × HasSaid err heard (Ok x.items) mid f) ⊎ (HasGotPart out.shows out.faults x.items o p × (status ≡ status_of Writing) × HasSaid err heard (Err Writing) mid f))
           → IfErr text (λ failure. (p ≡ o) × (status ≡ status_of failure) × HasSaid err heard (Err failure) mid f)
-          → IsRun source out err disk asked status s t o p e f d g
-      run_of_task (Ok x) did h (inl got) none = run_of_text x (worked disk laws asked input task (Ok x) d g is_task did) got.0 got.1 (said (Ok x) (Ok x.items) tt h got.2)
-      run_of_task (Ok x) did h (inr got) none = run_of_part x (worked disk laws asked input task (Ok x) d g is_task did) got.0 got.1 (said (Ok x) (Err Writing) tt h got.2)
-      run_of_task (Err failure) did h got none =
+          → IsRun source out err disk asked has_workers status s t o p e f d g
+      run_of_task (Ok x) did made h (inl got) none = run_of_text x (worked disk laws asked input task (Ok x) d g is_task did) made got.0 got.1 (said (Ok x) (Ok x.items) tt h got.2)
+      run_of_task (Ok x) did made h (inr got) none = run_of_part x (worked disk laws asked input task (Ok x) d g is_task did) made got.0 got.1 (said (Ok x) (Err Writing) tt h got.2)
+      run_of_task (Err failure) did made h got none =
           let work = worked disk laws asked input task (Err failure) d g is_task did in
-          run_without failure work work.failed none.0 none.1 (said (Err failure) (Err failure) tt h none.2)
+          run_without failure work made work.failed none.0 none.1 (said (Err failure) (Err failure) tt h none.2)

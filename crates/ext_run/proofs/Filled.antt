@@ -11,7 +11,9 @@ use Rattle.edge.specs.Disk.{HavePast}
 use Rattle.edge.specs.Faults.{HasRisen}
 use Rattle.f2_matrix.specs.Reduction.{Reduction}
 use Rattle.finite_module.specs.Checked.{Checked}
+use Rattle.finite_module.specs.Graded.{ModulesAreSteenrodModules}
 use Rattle.resolution_laws.specs.Resolution.{Content, square_in, row_of, below_of}
+use Rattle.resolution_laws.specs.Exactness.{CanonicalTableIsMinimalResolution}
 use Rattle.resolution_laws.specs.Start.{Entry, IsCanonicalStart}
 use Rattle.resolution_step.proofs.Orders.{AllPairs-nil}
 use Rattle.square.specs.declared.keep.KeepFault.{KeepFault}
@@ -33,7 +35,8 @@ use Rattle.save_file.proofs.Pushing.{quasi_given, quasi_stays, kept_given, AllRe
 use Rattle.ext_run.specs.Devices.{Store}
 use Rattle.ext_run.specs.Saving.{kept_of}
 use Rattle.ext_run.specs.Migrating.{Added, IsAddedBefore, KeepsOn}
-use Rattle.ext_run.specs.Inside.Adding.{IsFileOf, HasAdded, HasFilled}
+use Rattle.ext_run.specs.Inside.Adding.{IsFileOf, IsLeftOut, HasAdded, HasFilled}
+use Rattle.ext_run.proofs.ExactAt.{exact_at}
 use Rattle.ext_run.proofs.Lasting.{at_some, AreDisks}
 use Rattle.ext_run.proofs.Filling.{neither_given, kernel_at, none_added, weaker_added, weaker_given, then_added, then_given}
 use Rattle.ext_run.proofs.Giving.{amid_one, part_one, amid_none, come_here}
@@ -99,15 +102,16 @@ module _ {D : Type 0} (store : Store D) (laws : AreDisks store) where
   -- ---- squares that are left out
 
   -- a square of the canonical resolution has its quasi-inverse, or lacks one with its kernel rows
-  reduced_already : (table : Staircase) → IsTable table → (s k : ℕ) (t : ℤ) → t ≡ bottom_of table.resolved +ℤ pos k → IfSome (square_at table s t) (λ q. IsSome q.quasi ⊎ ((r : Reduction) × IsQuasiAt table s t r × (r.kernel ≢ q.content.kernel))) → IsCanonicalStart (over table.resolved) table.start → k < length (row_in table.rows s) → IsSome (quasi_kept table.rows s k)
-  reduced_already table is_table s k t degree left reads l =
+  reduced_already : CanonicalTableIsMinimalResolution → ModulesAreSteenrodModules → (table : Staircase) → IsTable table → (s k : ℕ) (t : ℤ) → t ≡ bottom_of table.resolved +ℤ pos k → IfSome (square_at table s t) (IsLeftOut table s t) → IsCanonicalStart (over table.resolved) table.start → k < length (row_in table.rows s) → IsSome (quasi_kept table.rows s k)
+  reduced_already minimal modules table is_table s k t degree left reads l =
       let there = slice_get-there (row_in table.rows s) k l in
       let q = there.0 in
       let at : square_at table s t ≡ Some q = square_at-above table s k t degree ∙ there.1 in
       let here : quasi_kept table.rows s k ≡ q.quasi = ap (option_and_then (λ (x : Placed). x.quasi)) there.1 in
-      elim (at_some (square_at table s t) (λ x. IsSome x.quasi ⊎ ((r : Reduction) × IsQuasiAt table s t r × (r.kernel ≢ x.content.kernel))) q at left) [
+      elim (at_some (square_at table s t) (IsLeftOut table s t) q at left) [
         | inl some ↦ subst (λ (x : Option Reduction). IsSome x) (sym here) some
-        | inr other ↦
+        | inr (inr inexact) ↦ absurd (exact_at minimal modules table is_table reads s k l t degree inexact)
+        | inr (inl other) ↦
             let is = other.1 in
             let d = is.degree in
             let place : is.above ≡ k = omega (arith, ints, d, degree) in
@@ -116,10 +120,10 @@ module _ {D : Type 0} (store : Store D) (laws : AreDisks store) where
       ]
 
   -- so that it may be left as it is
-  pub filled_left : (table : Staircase) (k' : SaveState D) → IsFileOf store table k' → (s k : ℕ) (t : ℤ) → t ≡ bottom_of table.resolved +ℤ pos k → IfSome (square_at table s t) (λ q. IsSome q.quasi ⊎ ((r : Reduction) × IsQuasiAt table s t r × (r.kernel ≢ q.content.kernel))) → HasFilled store (λ i j. (i ≡ s) × (j ≡ k)) Done table table k' k'
-  filled_left table k' file s k t degree left = filled_same (λ i j. (i ≡ s) × (j ≡ k)) table k' file (λ reads i j at l.
+  pub filled_left : CanonicalTableIsMinimalResolution → ModulesAreSteenrodModules → (table : Staircase) (k' : SaveState D) → IsFileOf store table k' → (s k : ℕ) (t : ℤ) → t ≡ bottom_of table.resolved +ℤ pos k → IfSome (square_at table s t) (IsLeftOut table s t) → HasFilled store (λ i j. (i ≡ s) × (j ≡ k)) Done table table k' k'
+  filled_left minimal modules table k' file s k t degree left = filled_same (λ i j. (i ≡ s) × (j ≡ k)) table k' file (λ reads i j at l.
       let row : j < length (row_in table.rows s) = subst (λ (n : ℕ). j < length (row_in table.rows n)) at.0 l in
-      let here = reduced_already table file.is_table s k t degree left reads (subst (λ (n : ℕ). n < length (row_in table.rows s)) at.1 row) in
+      let here = reduced_already minimal modules table file.is_table s k t degree left reads (subst (λ (n : ℕ). n < length (row_in table.rows s)) at.1 row) in
       subst (λ (n : ℕ). IsSome (quasi_kept table.rows n j)) (sym at.0) (subst (λ (n : ℕ). IsSome (quasi_kept table.rows s n)) (sym at.1) here))
 
   -- ---- one after the other

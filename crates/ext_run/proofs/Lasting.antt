@@ -66,7 +66,7 @@ canonical_squares m start list reads h =
 
 -- ---- what files stand for
 
-standing_ok : (standing : Standing) (list : List Entry) → result_ok standing ≡ Some list → standing ≡ Ok list
+pub standing_ok : (standing : Standing) (list : List Entry) → result_ok standing ≡ Some list → standing ≡ Ok list
 standing_ok (Ok l) list e = let same : l ≡ list = cc in ap (λ (x : List Entry). Ok x) same
 standing_ok (Err f) list e = absurd (cc)
 

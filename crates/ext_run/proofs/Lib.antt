@@ -6,6 +6,8 @@ mod Asked
 mod ByImages
 mod Certificates
 mod Continuing
+mod Courses
+mod ExactAt
 mod Filled
 mod Filling
 mod Giving

@@ -9,7 +9,7 @@ use Rattle.edge.proofs.Written.{with_more-two, HasPrefixMore-whole, HasPrefixMor
 use Rattle.live_worker.specs.Reports.{squares_of, live_lines, HasReported as Reported}
 use Rattle.live_worker.proofs.Reported.{retold, reported_none}
 use Rattle.ext_words.specs.declared.command.Command.{Command}
-use Rattle.ext_words.specs.declared.command.Command.TheVariants.{Sphere, Resolve as OfFile, Dump, Products, Massey, Sample}
+use Rattle.ext_words.specs.declared.command.Command.TheVariants.{Sphere, Resolve as OfFile, Dump, Products, Massey, Sample, Table}
 use Rattle.ext_words.specs.declared.command.Common.{Common}
 use Rattle.ext_words.specs.Words.{texts_of, has_live, command_of}
 use Rattle.ext_words.proofs.Unasked.{AsksNone, asks_none}
@@ -17,7 +17,7 @@ use Rattle.ext_report.specs.declared.failure.Failure.{Failure}
 use Rattle.ext_report.specs.Failure.{status_of}
 use Rattle.ext_report.specs.Lines.{line_of}
 use Rattle.ext_run.specs.declared.plan.Plan.{Plan}
-use Rattle.ext_run.specs.declared.plan.Plan.TheVariants.{Resolve, Migrate, Verify}
+use Rattle.ext_run.specs.declared.plan.Plan.TheVariants.{Resolve, Seek, Migrate, Verify}
 use Rattle.ext_run.specs.declared.task.Task.{Task}
 use Rattle.ext_run.specs.declared.task.Task.TheVariants.{Text, Resolution, Migration, Verification}
 use Rattle.ext_run.specs.Devices.{Device}
@@ -132,6 +132,7 @@ reported_early err (Some range) failure e f told = record {
 live_as : (asked : Option Plan) (input : List ℕ) (task : Task) → IsTaskFor asked input task → live_for asked ≡ live_in task
 live_as (Some (Resolve origin form common)) input (Resolution r) is = ap (λ (c : Common). live_where c.live c.range) (sym is.1)
 live_as (Some (Resolve origin form common)) input (Text made) is = absurd is
+live_as (Some (Seek sought workers)) input (Resolution r) is = ap (λ (c : Common). live_where c.live c.range) (sym is.1)
 live_as (Some plan) input (Text made) is = refl
 live_as (Some Migrate) input (Migration m) is = refl
 live_as (Some (Verify range)) input (Verification m r) is = refl
@@ -152,6 +153,7 @@ none_for (Some (Sphere common)) is = quiet_at common.live common.range is
 none_for (Some (OfFile common)) is = quiet_at common.live common.range is
 none_for (Some (Dump common)) is = quiet_at common.live common.range is
 none_for (Some (Products common by)) is = quiet_at common.live common.range is
+none_for (Some (Table common by)) is = quiet_at common.live common.range is
 none_for (Some (Massey common a b c)) is = quiet_at common.live common.range is
 none_for (Some (Sample n common)) is = quiet_at common.live common.range is
 none_for command is = refl

@@ -1,22 +1,17 @@
 -- What is told, or refused, of all canonical resolutions.
-use Rattle.std.proofs.Common.{◌≡◌, ℕ, ◌≤◌, List, [], refl, arith}
-use Rattle.std.specs.Prelude.{Result, Ok, Err}
+use Rattle.std.proofs.Common.{ℕ, List, [], refl, arith}
+use Rattle.std.specs.Prelude.{Result, Err}
 use Rattle.bidegree.specs.declared.range.Range.{Range}
-use Rattle.bidegree.specs.declared.shape.Shape.TheVariants.{Rectangle}
 use Rattle.finite_module.specs.Module.{Module as SteenrodModule}
 use Rattle.finite_module.specs.Checked.{Checked, sphere_file}
 use Rattle.finite_module.specs.DerivedAction.{derived_module}
 use Rattle.resolution_laws.specs.Resolution.{Content}
-use Rattle.square.specs.Squares.{over}
 use Rattle.lift_laws.specs.Lifts.{Resolution, IsCanonical, IsSphere}
-use Rattle.resolution_images.specs.BareRows.{BareTable, AreOfCanonical}
 use Rattle.ext_products.specs.declared.refusal.Refusal.{Refusal}
 use Rattle.ext_products.specs.Products.{resolution, Telling}
 use Rattle.ext_products.proofs.SphereTables.{sphere-is}
-use Rattle.ext_h_products.specs.RowOne.{ReachThrough}
 use Rattle.ext_run.specs.Forms.{IsToldOfClasses, IsRefusedOver, told_of_classes}
 use Rattle.ext_run.proofs.AnswerExists.{TableLaws, canonical_by, one_alone, table_exists}
-use Rattle.ext_run.proofs.ByImages.{rectangle}
 
 -- what is told of all canonical resolutions of a module and of the sphere is told of the module
 pub told_of_all : TableLaws → (Tells : Telling) (range : Range) (m : Checked) (told : Result (List ℕ) Refusal) →
@@ -53,9 +48,3 @@ refused_of_all laws Tells range m refusal answer =
       sphere_resolved = sphere.1;
       is_told = answer (resolution m []) (resolution sphere_module sphere.0) q (sphere-is sphere.0);
     }
-
--- the images go through the range
-pub reach : TableLaws → (range : Range) (images : BareTable) → AreOfCanonical (over images.resolved) range.s range.t images.rows → ReachThrough range images
-reach laws range images are =
-    let made : Result BareTable (List ℕ) = Ok images in
-    (rectangle laws.exists laws.minimal laws.modules range images.resolved Rectangle made refl are).through

@@ -28,6 +28,7 @@ use Rattle.ext_run.specs.Certificates.{IsCertificate, IsNoCertificate}
 use Rattle.ext_run.specs.Disks.{Outcome, IsOnDisk, IsRefused, IsUncertified, IsFitFor, IsUsable, IsCertified, IsEarly, IsAnswered, IsCutOff, HasServed, HasSaved}
 use Rattle.ext_run.specs.Task.{IsDoneBy, IsTaskFor}
 use Rattle.ext_run.specs.Work.{Told, HasAnswer, answer_of, IsTaskRefusal, IsFileRefusal, IsCertificateRefusal, IsUnsaved, HasUsed, HasWorked}
+use Rattle.ext_run.specs.Courses.{HasText, HasMadeText}
 use Rattle.ext_run.specs.Run.{IsCause}
 use Rattle.ext_run.proofs.Asked.{asked_told}
 use Rattle.ext_run.proofs.Certificates.{certificate_decided}
@@ -64,10 +65,18 @@ late_answer failure (certificate e) h = h
 late_answer failure (classes e) h = h
 late_answer failure memory h = h
 
+late_text : (failure : Failure) → IsLate failure → HasMadeText (Err failure) → ⊥
+late_text failure saving h = h
+late_text failure (save_file e) h = h
+late_text failure (certificate e) h = h
+late_text failure (classes e) h = h
+late_text failure memory h = h
+
 -- the outcome is that of the text, and does not come before it
 pub record IsAfter (text : Told) (outcome : Outcome) : Type 0 where
   pub late : IsEarly outcome → ⊥
   pub answered : IsAnswered outcome → HasAnswer text
+  pub made : HasMadeText outcome → HasText text
   pub saving : outcome ≡ Err Saving → text ≡ Err Saving
   pub told : text ≡ Err Saving → outcome ≡ Err Saving
   pub refusal : (e : ResumeFault) → outcome ≡ Err (SaveFile e) → text ≡ Err (SaveFile e)
@@ -79,11 +88,11 @@ no_text_told x e (inr (inl h)) = cc
 no_text_told x e (inr (inr h)) = cc
 
 pub after_text : (x : Vec ℕ Global) → IsAfter (Ok x) (Ok x.items)
-after_text x = record { late = λ h. h; answered = λ h. tt; saving = λ h. absurd cc; told = λ h. absurd cc; refusal = λ e h. absurd cc; told_by = λ e h. absurd (no_text_told x e h) }
+after_text x = record { late = λ h. h; answered = λ h. tt; made = λ h. tt; saving = λ h. absurd cc; told = λ h. absurd cc; refusal = λ e h. absurd cc; told_by = λ e h. absurd (no_text_told x e h) }
 
 -- the text cannot be written
 pub after_cut : (x : Vec ℕ Global) → IsAfter (Ok x) (Err Writing)
-after_cut x = record { late = λ h. h; answered = λ h. tt; saving = λ h. absurd cc; told = λ h. absurd cc; refusal = λ e h. absurd cc; told_by = λ e h. absurd (no_text_told x e h) }
+after_cut x = record { late = λ h. h; answered = λ h. tt; made = λ h. tt; saving = λ h. absurd cc; told = λ h. absurd cc; refusal = λ e h. absurd cc; told_by = λ e h. absurd (no_text_told x e h) }
 
 module _ (failure : Failure) (late : IsLate failure) where
   same_failure : (other : Failure) → ◌≡◌ {A = Outcome} (Err failure) (Err other) → ◌≡◌ {A = Told} (Err failure) (Err other)
@@ -94,10 +103,11 @@ module _ (failure : Failure) (late : IsLate failure) where
   failure_told e (inr (inl h)) = let same : failure ≡ Saving = cc in inr (subst (λ (x : Failure). IsCutOff (Err x)) (sym same) tt)
   failure_told e (inr (inr h)) = let same : failure ≡ Memory = cc in inr (subst (λ (x : Failure). IsCutOff (Err x)) (sym same) tt)
 
-  after_failure : IsAfter (Err failure) (Err failure)
+  pub after_failure : IsAfter (Err failure) (Err failure)
   after_failure = record {
     late = late_failure failure late;
     answered = late_answer failure late;
+    made = late_text failure late;
     saving = same_failure Saving;
     told = λ h. let same : failure ≡ Saving = cc in ap (λ (e : Failure). Err e) same;
     refusal = λ e. same_failure (SaveFile e);

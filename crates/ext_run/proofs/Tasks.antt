@@ -11,7 +11,7 @@ use Rattle.finite_module.specs.DerivedAction.{derived_module}
 use Rattle.module_check.specs.declared.fault.CheckFault.{CheckFault}
 use Rattle.ext_words.specs.declared.command.Common.{Common}
 use Rattle.ext_words.specs.declared.command.Command.{Command}
-use Rattle.ext_words.specs.declared.command.Command.TheVariants.{Products, Massey, Build, Sq, Migrate}
+use Rattle.ext_words.specs.declared.command.Command.TheVariants.{Products, Massey, Product, Bracket, Build, Sq, Migrate, Table}
 use Rattle.ext_words.specs.declared.command.Build.{Build as Made}
 use Rattle.ext_words.specs.declared.command.WordsFault.{WordsFault}
 use Rattle.ext_words.specs.declared.command.WordsFault.TheVariants.{Words as Outside, Memory as NoSpace}
@@ -24,22 +24,27 @@ use Rattle.read_module.specs.Input.{IsOfInput, IsFileCauseFrom, IsModuleFrom}
 use Rattle.ext_build.specs.Building.{IsBuildAnswer, IsBuildAnswerFrom, IsBuildCauseFrom}
 use Rattle.ext_run.specs.declared.plan.Origin.{Origin}
 use Rattle.ext_run.specs.declared.plan.Origin.TheVariants.{Sphere as OfSphere, Sample as OfSample, File as OfFile}
+use Rattle.ext_run.specs.declared.plan.Sought.{Sought}
 use Rattle.ext_run.specs.declared.plan.Form.{Form}
+use Rattle.ext_run.specs.declared.plan.Form.TheVariants.{Sought as ToTell}
 use Rattle.ext_run.specs.declared.plan.Plan.{Plan}
-use Rattle.ext_run.specs.declared.plan.Plan.TheVariants.{Resolve as ToResolve, Check as ToCheck, Build as ToBuild, Multiply, Migrate as ToMigrate, Verify as ToVerify}
+use Rattle.ext_run.specs.declared.plan.Plan.TheVariants.{Resolve as ToResolve, Seek, Check as ToCheck, Build as ToBuild, Multiply, Migrate as ToMigrate, Verify as ToVerify}
 use Rattle.ext_run.specs.declared.task.Task.{Task}
 use Rattle.ext_run.specs.declared.task.Task.TheVariants.{Text, Resolution, Migration, Verification}
 use Rattle.ext_run.specs.declared.task.Resolution.{Resolution as Resolved}
-use Rattle.ext_run.specs.Plan.{plan_of, asked_by, IsPlanWithin, IsModuleIn, IsModuleAt, IsModuleFor, PlanReads, verifying, use_where, use_for}
+use Rattle.ext_run.specs.Plan.{plan_of, range_for, common_for, asked_by, IsPlanWithin, IsModuleIn, IsModuleAt, IsModuleFor, PlanReads, verifying, use_where, use_for}
 use Rattle.ext_run.specs.Forms.{IsVerifiedChart, IsText, IsInForm, IsRefusedIn}
-use Rattle.ext_run.specs.Answer.{IsLineOn, IsMigrated, IsProduct, ModuleAnswers, IsAnswerOfFile, IsModuleAnswer, IsAnswerAt, IsAnswerTo, IsAskedAnswer, IsAskedRefusal, IsTaskCause, IsTaskCauseFrom, IsOriginCauseFrom}
+use Rattle.ext_run.specs.Answer.{IsLineOn, IsMigrated, IsProduct, IsFound, ModuleAnswers, IsAnswerOfFile, IsModuleAnswer, IsAnswerAt, IsAnswerTo, IsAskedAnswer, IsAskedRefusal, IsTaskCause, IsTaskCauseFrom, IsOriginCauseFrom}
 use Rattle.ext_run.specs.Task.{IsDoneBy, use_in, IsTaskOf, IsTaskFor}
 
 -- ---- the limits
 
 pub plan_within : (command : Command) → IsWithinLimits command → IsPlanWithin (plan_of command)
 plan_within (Products common by) h = h.0
+plan_within (Table common by) h = h.0
 plan_within (Massey common a b c) h = h.0
+plan_within (Product workers a x) h = h.0
+plan_within (Bracket workers a b c) h = h.0
 plan_within (Build made) h = tt
 plan_within (Sq numbers) h = h.2
 plan_within Migrate h = tt
@@ -57,6 +62,7 @@ at_same OfFile bytes m n p q =
 
 pub module_same : (asked : Option Plan) (bytes : List ℕ) (m n : SteenrodModule) → IsModuleFor asked bytes m → IsModuleFor asked bytes n → m ≡ n
 module_same (Some (ToResolve origin form common)) bytes m n p q = at_same origin bytes m n p q
+module_same (Some (Seek sought workers)) bytes m n p q = at_same OfFile bytes m n p q
 module_same (Some ToCheck) bytes m n p q = at_same OfFile bytes m n p q
 module_same (Some ToMigrate) bytes m n p q = at_same OfFile bytes m n p q
 module_same (Some (ToVerify range)) bytes m n p q = at_same OfFile bytes m n p q
@@ -84,11 +90,20 @@ resolution_answer P origin form common bytes r answer h is =
     let here : P form common.range r.resolved.plain answer = subst (λ (c : Common). P form c.range r.resolved.plain answer) h.1 in_form in
     at_answer (P form common.range) origin bytes r.resolved.plain answer h.2 here
 
+-- for what is sought, and the module of a resolution
+sought_answer : (P : Form → Range → ModuleAnswers) (sought : Sought) (workers : ℕ) (bytes : List ℕ) (r : Resolved) (answer : Result (List ℕ) Failure) → IsTaskOf (Seek sought workers) bytes (Resolution r) → P r.form r.common.range r.resolved.plain answer → IsModuleAnswer (λ m a. P (ToTell sought) (range_for sought m) m a) bytes answer
+sought_answer P sought workers bytes r answer h is =
+    let m = r.resolved.plain in
+    let in_form : P (ToTell sought) r.common.range m answer = subst (λ (f : Form). P f r.common.range m answer) h.0 is in
+    let here : P (ToTell sought) (range_for sought m) m answer = subst (λ (c : Common). P (ToTell sought) c.range m answer) h.1 in_form in
+    module_answer (λ m a. P (ToTell sought) (range_for sought m) m a) bytes m answer h.2 here
+
 pub task_answers : (asked : Option Plan) (bytes : List ℕ) (task : Task) (answer : Result (List ℕ) Failure) → IsTaskFor asked bytes task → IsDoneBy task answer → IsAskedAnswer asked bytes answer
 task_answers (Some (ToResolve origin form common)) bytes (Resolution r) answer h is = resolution_answer IsInForm origin form common bytes r answer h is
 task_answers (Some (ToResolve origin form common)) bytes (Text made) answer h is = absurd h
 task_answers (Some (ToResolve origin form common)) bytes (Migration m) answer h is = absurd h
 task_answers (Some (ToResolve origin form common)) bytes (Verification m r) answer h is = absurd h
+task_answers (Some (Seek sought workers)) bytes (Resolution r) answer h is = sought_answer IsInForm sought workers bytes r answer h is
 task_answers (Some ToCheck) bytes (Text made) answer h is =
     let text : IsText IsLineOn h.0 (Ok made.items) = h.2 in
     module_answer (IsText IsLineOn) bytes h.0 answer h.1 (subst (IsText IsLineOn h.0) (sym is) text)
@@ -107,6 +122,7 @@ task_answers asked bytes task answer h is = absurd h
 -- the task uses it as the plan does
 pub task_use : (asked : Option Plan) (bytes : List ℕ) (task : Task) → IsTaskFor asked bytes task → use_for asked ≡ use_in task
 task_use (Some (ToResolve origin form common)) bytes (Resolution r) h = ap (λ (c : Common). use_where c.save c.range) (sym h.1)
+task_use (Some (Seek sought workers)) bytes (Resolution r) h = ap (λ (c : Common). use_where c.save c.range) (sym h.1)
 task_use (Some ToCheck) bytes (Text made) h = refl
 task_use (Some (ToBuild what)) bytes (Text made) h = refl
 task_use (Some (Multiply numbers)) bytes (Text made) h = refl
@@ -117,6 +133,7 @@ task_use asked bytes task h = absurd h
 -- and its module is the plan's
 pub resolution_module : (asked : Option Plan) (bytes : List ℕ) (r : Resolved) → IsTaskFor asked bytes (Resolution r) → IsModuleFor asked bytes r.resolved.plain
 resolution_module (Some (ToResolve origin form common)) bytes r h = h.2
+resolution_module (Some (Seek sought workers)) bytes r h = h.2
 resolution_module asked bytes r h = absurd h
 
 pub migration_module : (asked : Option Plan) (bytes : List ℕ) (m : Checked) → IsTaskFor asked bytes (Migration m) → IsModuleFor asked bytes m.plain
@@ -130,6 +147,7 @@ verification_module asked bytes m r h = absurd h
 -- what is refused of its classes is refused of the plan's
 pub resolution_refused : (asked : Option Plan) (bytes : List ℕ) (r : Resolved) (answer : Result (List ℕ) Failure) → IsTaskFor asked bytes (Resolution r) → IsRefusedIn r.form r.common.range r.resolved.plain answer → IsAskedRefusal asked bytes answer
 resolution_refused (Some (ToResolve origin form common)) bytes r answer h is = resolution_answer IsRefusedIn origin form common bytes r answer h is
+resolution_refused (Some (Seek sought workers)) bytes r answer h is = sought_answer IsRefusedIn sought workers bytes r answer h is
 resolution_refused asked bytes r answer h is = absurd h
 
 -- ---- the input
@@ -174,6 +192,9 @@ resolve_cause origin form common left failure (inl memory) = subst (IsTaskCauseF
 resolve_cause OfSphere form common left failure (inr p) = absurd p.0
 resolve_cause (OfSample n) form common left failure (inr p) = absurd p.0
 resolve_cause OfFile form common left failure (inr p) = file_cause (ToResolve OfFile form common) (IsInForm form common.range) tt (λ bytes a q. q) left failure p.1
+
+pub seek_cause : (sought : Sought) (workers : ℕ) (left : Option (List ℕ)) (failure : Failure) → IsFileCauseFrom left failure → IsTaskCauseFrom (Some (Seek sought workers)) left failure
+seek_cause sought workers = file_cause (Seek sought workers) (IsFound sought) tt (λ bytes a q. q)
 
 pub check_cause : (left : Option (List ℕ)) (failure : Failure) → IsFileCauseFrom left failure → IsTaskCauseFrom (Some ToCheck) left failure
 check_cause = file_cause ToCheck (IsText IsLineOn) tt (λ bytes a q. q)
@@ -231,6 +252,12 @@ module _ (plan : Plan) where
   resolve_task origin form common left m task is from made =
       let here : IsTaskFrom (ToResolve origin form common) left (Resolution (record { resolved = m; common = common; form = form })) = record { bytes = from.bytes; all = from.all; holds = (refl, refl, from.holds) } in
       subst (λ (p : Plan). IsTaskFrom p left task) (sym is) (subst (IsTaskFrom (ToResolve origin form common) left) (sym made) here)
+
+  pub seek_task : (sought : Sought) (workers : ℕ) (left : Option (List ℕ)) (m : Checked) (task : Task) → plan ≡ Seek sought workers → IsModuleFrom left m.plain → task ≡ Resolution (record { resolved = m; common = common_for sought workers m.plain; form = ToTell sought }) → IsTaskFrom plan left task
+  seek_task sought workers left m task is from made =
+      let there = module_in left m.plain from in
+      let here : IsTaskFrom (Seek sought workers) left (Resolution (record { resolved = m; common = common_for sought workers m.plain; form = ToTell sought })) = record { bytes = there.bytes; all = there.all; holds = (refl, refl, there.holds) } in
+      subst (λ (p : Plan). IsTaskFrom p left task) (sym is) (subst (IsTaskFrom (Seek sought workers) left) (sym made) here)
 
   pub check_task : (left : Option (List ℕ)) (m : SteenrodModule) (made : Vec ℕ Global) → plan ≡ ToCheck → IsModuleFrom left m → IsLineOn m made.items → IsTaskFrom plan left (Text made)
   check_task left m made is from line =

@@ -20,8 +20,10 @@ use Rattle.ext_build.specs.Building.{IsBuildAnswer}
 use Rattle.ext_run.specs.declared.plan.Origin.{Origin}
 use Rattle.ext_run.specs.declared.plan.Origin.TheVariants.{Sphere, Sample, File as OfFile}
 use Rattle.ext_run.specs.declared.plan.Plan.{Plan}
-use Rattle.ext_run.specs.declared.plan.Plan.TheVariants.{Resolve, Check, Build, Multiply, Migrate, Verify}
-use Rattle.ext_run.specs.Plan.{asked_by, IsRead, Reads}
+use Rattle.ext_run.specs.declared.plan.Sought.{Sought}
+use Rattle.ext_run.specs.declared.plan.Form.TheVariants.{Sought as ToTell}
+use Rattle.ext_run.specs.declared.plan.Plan.TheVariants.{Resolve, Seek, Check, Build, Multiply, Migrate, Verify}
+use Rattle.ext_run.specs.Plan.{asked_by, range_for, IsRead, Reads}
 use Rattle.ext_run.specs.Forms.{IsVerifiedChart, IsText, IsInForm, IsRefusedIn}
 
 -- text is the line on the module
@@ -63,10 +65,19 @@ IsAnswerAt Sphere IsAnswerOf bytes answer = IsAnswerOf (derived_module sphere_fi
 IsAnswerAt (Sample n) IsAnswerOf bytes answer = IsAnswerOf (derived_module (sample_file n)) answer
 IsAnswerAt OfFile IsAnswerOf bytes answer = IsModuleAnswer IsAnswerOf bytes answer
 
+-- what is sought of a module's classes, through the least range that has it
+abbrev pub IsFound : Sought → ModuleAnswers
+IsFound sought m answer = IsInForm (ToTell sought) (range_for sought m) m answer
+
+-- the answer refuses classes of what is sought
+abbrev pub IsNotFound : Sought → ModuleAnswers
+IsNotFound sought m answer = IsRefusedIn (ToTell sought) (range_for sought m) m answer
+
 -- ---- to words
 
 abbrev pub IsAnswerTo : Plan → List ℕ → Result (List ℕ) Failure → Type 0
 IsAnswerTo (Resolve origin form common) bytes answer = IsAnswerAt origin (IsInForm form common.range) bytes answer
+IsAnswerTo (Seek sought workers) bytes answer = IsModuleAnswer (IsFound sought) bytes answer
 IsAnswerTo Check bytes answer = IsModuleAnswer (IsText IsLineOn) bytes answer
 IsAnswerTo (Build made) bytes answer = IsBuildAnswer made bytes answer
 IsAnswerTo (Multiply numbers) bytes answer = IsOkAnd answer (IsProduct numbers)
@@ -87,6 +98,7 @@ IsAnswer words bytes answer = IsAskedAnswer (asked_by words) bytes answer
 abbrev pub IsAskedRefusal : Option Plan → List ℕ → Result (List ℕ) Failure → Type 0
 IsAskedRefusal (Some (Resolve origin form common)) bytes answer =
     IsAnswerAt origin (IsRefusedIn form common.range) bytes answer
+IsAskedRefusal (Some (Seek sought workers)) bytes answer = IsModuleAnswer (IsNotFound sought) bytes answer
 IsAskedRefusal asked bytes answer = ⊥
 
 abbrev pub AnswerIsUnique : Type 0

@@ -17,12 +17,15 @@ use Rattle.ext_chart.specs.Files.{verified_text}
 use Rattle.ext_chart.specs.Dump.{dump_text}
 use Rattle.ext_chart.specs.Summary.{summary_text}
 use Rattle.ext_products.specs.declared.refusal.Refusal.{Refusal}
-use Rattle.ext_products.specs.Products.{resolution, Telling, IsProductsAnswer}
+use Rattle.ext_products.specs.Products.{resolution, Telling, IsOneProductAnswer}
+use Rattle.ext_table.specs.Layouts.{told_in}
 use Rattle.ext_brackets.specs.Brackets.{IsBracketAnswer, IsOfPlaces}
 use Rattle.ext_run.specs.declared.plan.Sheet.{Sheet}
 use Rattle.ext_run.specs.declared.plan.Sheet.TheVariants.{Chart, Differentials, Summary}
+use Rattle.ext_run.specs.declared.plan.Sought.{Sought}
+use Rattle.ext_run.specs.declared.plan.Sought.TheVariants.{Product, Bracket}
 use Rattle.ext_run.specs.declared.plan.Form.{Form}
-use Rattle.ext_run.specs.declared.plan.Form.TheVariants.{Squares, Products, Bracket}
+use Rattle.ext_run.specs.declared.plan.Form.TheVariants.{Squares, Products, Sought as ToTell}
 
 -- table is that of the module's canonical resolution through the range, which is exact and minimal
 pub record IsResolved (range : Range) (m : SteenrodModule) (table : List (List Content)) : Type 0 where
@@ -97,17 +100,23 @@ abbrev pub IsRefusalWith : (Refusal → Type 0) → Result (List ℕ) Failure �
 IsRefusalWith Holds (Err (Classes refusal)) = Holds refusal
 IsRefusalWith Holds answer = ⊥
 
+-- what is told where it is sought of classes
+abbrev pub IsSoughtAnswer : Sought → Range → Telling
+IsSoughtAnswer (Product a x) range = IsOneProductAnswer range a x
+IsSoughtAnswer (Bracket a b c) range = IsBracketAnswer range a b c
+
 -- ---- the forms
 
 -- the answer is that of the module's canonical resolution through the range, in this form
 abbrev pub IsInForm : Form → Range → SteenrodModule → Result (List ℕ) Failure → Type 0
 IsInForm (Squares sheet shape) range = IsText (IsReadOff (sheet_of sheet shape range) range)
-IsInForm (Products by) range = IsToldOfClasses (IsProductsAnswer range by) range
-IsInForm (Bracket a b c) range = IsToldOfClasses (IsBracketAnswer range a b c) range
+IsInForm (Products layout by shape) range = IsToldOfClasses (told_in layout shape range by) range
+IsInForm (ToTell sought) range = IsToldOfClasses (IsSoughtAnswer sought range) range
 
 -- The answer is a refusal of classes, in a form that tells of them. A refusal of a place is right over some squares of the module.
 abbrev pub IsRefusedIn : Form → Range → SteenrodModule → Result (List ℕ) Failure → Type 0
-IsRefusedIn (Products by) range m answer = IsRefusalWith (IsRefusedOver (IsProductsAnswer range by) range m) answer
-IsRefusedIn (Bracket a b c) range m answer =
-    IsRefusalWith (λ refusal. IsOfPlaces refusal → IsRefusedOver (IsBracketAnswer range a b c) range m refusal) answer
+IsRefusedIn (Products layout by shape) range m answer =
+    IsRefusalWith (IsRefusedOver (told_in layout shape range by) range m) answer
+IsRefusedIn (ToTell sought) range m answer =
+    IsRefusalWith (λ refusal. IsOfPlaces refusal → IsRefusedOver (IsSoughtAnswer sought range) range m refusal) answer
 IsRefusedIn form range m answer = ⊥

@@ -10,6 +10,7 @@ pub mod Disks
 pub mod Inside
 pub mod NextRun
 pub mod Work
+pub mod Courses
 pub mod Ending
 pub mod Live
 pub mod Existence

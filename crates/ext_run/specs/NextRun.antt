@@ -1,5 +1,5 @@
 -- What a run leaves to the next one for the same module over the same disk.
-use Rattle.std.specs.Prelude.{◌≡◌, ◌⊎◌, ℕ, ◌≤◌, List, [], length, Option, Some, IsSome, Result, Ok, Err}
+use Rattle.std.specs.Prelude.{◌≡◌, ◌⊎◌, ℕ, ◌≤◌, Bool, List, [], length, Option, Some, IsSome, Result, Ok, Err}
 use Rattle.edge.specs.Faults.{HasRisen}
 use Rattle.bidegree.specs.declared.range.Range.{Range}
 use Rattle.finite_module.specs.Module.{Module as SteenrodModule}
@@ -43,6 +43,7 @@ ShortDiskIsOurs {D} images = (m : SteenrodModule) (d : D) → ((c : List ℕ) �
 -- a run for what is asked: its status, and its devices before and after it
 pub record RunFor {S O E D : Type 0} (source : Device S) (out : Device O) (err : Device E) (disk : Store D)
     (asked : Option Plan) : Type 0 where
+  pub has_workers : Bool
   pub status : ℕ
   pub source_old : S
   pub source_new : S
@@ -52,7 +53,7 @@ pub record RunFor {S O E D : Type 0} (source : Device S) (out : Device O) (err :
   pub err_new : E
   pub disk_old : D
   pub disk_new : D
-  pub is_run : IsRun source out err disk asked status source_old source_new out_old out_new err_old err_new disk_old
+  pub is_run : IsRun source out err disk asked has_workers status source_old source_new out_old out_new err_old err_new disk_old
       disk_new
 
 -- no count of failures rose in it, of its source, its sink and its disk

@@ -1,38 +1,47 @@
 -- What a command asks for: where its module comes from, how its answer is made, and what is used of the disk.
 -- Outside of this file, all goes by plans.
-use Rattle.std.specs.Prelude.{◌≡◌, ◌≤◌, ℕ, List, Bool, true, false, Option, Some, None, option_map, MatchOption, Ok, ⊤}
+use Rattle.std.specs.Prelude.{◌≡◌, ◌≤◌, ℕ, ℤ, List, Bool, true, false, Option, Some, None, option_map, MatchOption, Ok, ⊤}
 use Rattle.std.specs.List.{sum}
 use Rattle.bidegree.specs.declared.range.Range.{Range}
+use Rattle.bidegree.specs.declared.shape.Shape.TheVariants.{Rectangle}
+use Rattle.least_range.specs.Least.{product_range, bracket_range}
 use Rattle.module_spec.specs.Spec.{File}
 use Rattle.module_json.specs.ModuleFile.{IsFileOf}
-use Rattle.finite_module.specs.Module.{Module as SteenrodModule}
+use Rattle.finite_module.specs.Module.{Module as SteenrodModule, bottom}
 use Rattle.finite_module.specs.DerivedAction.{derived_module}
 use Rattle.finite_module.specs.Checked.{sphere_file}
 use Rattle.finite_module.specs.Sample.{sample_file}
 use Rattle.module_check.specs.Acceptance.{refusal_of}
 use Rattle.ext_words.specs.declared.command.TheConstants.{MAX_SQUARES_DEGREE}
+use Rattle.ext_words.specs.declared.command.Common.{Common}
 use Rattle.ext_words.specs.declared.command.Command.{Command}
-use Rattle.ext_words.specs.declared.command.Command.TheVariants.{Sphere, Resolve, Dump, Products, Massey, Check, Build, Sample, Sq, Migrate, Verify}
-use Rattle.ext_words.specs.Words.{command_of, IsRangeWithin, IsWithin}
+use Rattle.ext_words.specs.declared.command.Command.TheVariants.{Sphere, Resolve, Dump, Products, Massey, Product, Bracket, Check, Build, Sample, Sq, Migrate, Verify, Table}
+use Rattle.ext_words.specs.Words.{command_of, AreWorkers, IsRangeWithin, IsWithin}
+use Rattle.ext_table.specs.declared.layout.Layout.TheVariants.{Lists, Table as InSquares}
 use Rattle.ext_run.specs.declared.plan.Origin.{Origin}
 use Rattle.ext_run.specs.declared.plan.Origin.TheVariants.{Sphere as OfSphere, Sample as OfSample, File as OfFile}
 use Rattle.ext_run.specs.declared.plan.Sheet.TheVariants.{Chart, Differentials, Summary}
-use Rattle.ext_run.specs.declared.plan.Form.TheVariants.{Squares, Products as ProductsOf, Bracket}
+use Rattle.ext_run.specs.declared.plan.Sought.{Sought}
+use Rattle.ext_run.specs.declared.plan.Sought.TheVariants.{Product as OneProduct, Bracket as OneBracket}
+use Rattle.ext_run.specs.declared.plan.Form.TheVariants.{Squares, Products as ProductsOf, Sought as ToTell}
 use Rattle.ext_run.specs.declared.plan.Plan.{Plan}
-use Rattle.ext_run.specs.declared.plan.Plan.TheVariants.{Resolve as ToResolve, Check as ToCheck, Build as ToBuild, Multiply, Migrate as ToMigrate, Verify as ToVerify}
+use Rattle.ext_run.specs.declared.plan.Plan.TheVariants.{Resolve as ToResolve, Seek, Check as ToCheck, Build as ToBuild, Multiply, Migrate as ToMigrate, Verify as ToVerify}
 
 abbrev pub plan_of : Command → Plan
 plan_of (Sphere common) = ToResolve OfSphere (Squares Chart common.shape) common
 plan_of (Resolve common) = ToResolve OfFile (Squares Chart common.shape) common
 plan_of (Dump common) = ToResolve OfFile (Squares Differentials common.shape) common
-plan_of (Products common by) = ToResolve OfFile (ProductsOf by) common
-plan_of (Massey common a b c) = ToResolve OfFile (Bracket a b c) common
+plan_of (Products common by) = ToResolve OfFile (ProductsOf Lists by common.shape) common
+plan_of (Massey common a b c) = ToResolve OfFile (ToTell (OneBracket a b c)) common
+plan_of (Product workers a x) = Seek (OneProduct a x) workers
+plan_of (Bracket workers a b c) = Seek (OneBracket a b c) workers
 plan_of Check = ToCheck
 plan_of (Build made) = ToBuild made
 plan_of (Sample n common) = ToResolve (OfSample n) (Squares Summary common.shape) common
 plan_of (Sq numbers) = Multiply numbers
 plan_of Migrate = ToMigrate
 plan_of (Verify range) = ToVerify range
+plan_of (Table common by) = ToResolve OfFile (ProductsOf InSquares by common.shape) common
 
 -- what the words ask for, none where they are outside the grammar
 abbrev pub asked_by : List (List ℕ) → Option Plan
@@ -41,9 +50,25 @@ asked_by words = option_map plan_of (command_of words)
 -- within the limits of the grammar
 abbrev pub IsPlanWithin : Plan → Type 0
 IsPlanWithin (ToResolve origin form common) = IsWithin common
+IsPlanWithin (Seek sought workers) = AreWorkers workers
 IsPlanWithin (Multiply numbers) = sum numbers ≤ MAX_SQUARES_DEGREE
 IsPlanWithin (ToVerify range) = IsRangeWithin range
 IsPlanWithin plan = ⊤
+
+-- ---- how far a module is resolved for what is sought
+
+-- the least range that has it, over a module with this bottom, as far as ranges go
+abbrev pub least_range : Sought → ℤ → Range
+least_range (OneProduct a x) bottom = product_range bottom a x
+least_range (OneBracket a b c) bottom = bracket_range bottom a b c
+
+abbrev pub range_for : Sought → SteenrodModule → Range
+range_for sought m = least_range sought (bottom m.generators)
+
+-- by so many workers; nothing is kept, and nothing reported
+abbrev pub common_for : Sought → ℕ → SteenrodModule → Common
+common_for sought workers m =
+    record { range = range_for sought m; shape = Rectangle; workers = workers; save = false; live = false }
 
 -- ---- the module
 
@@ -63,6 +88,7 @@ IsModuleAt OfFile bytes m = IsModuleIn bytes m
 -- the module that is resolved or told of, or whose save file is used; none where none is
 abbrev pub IsModuleOf : Plan → List ℕ → SteenrodModule → Type 0
 IsModuleOf (ToResolve origin form common) bytes m = IsModuleAt origin bytes m
+IsModuleOf (Seek sought workers) bytes m = IsModuleIn bytes m
 IsModuleOf ToCheck bytes m = IsModuleIn bytes m
 IsModuleOf ToMigrate bytes m = IsModuleIn bytes m
 IsModuleOf (ToVerify range) bytes m = IsModuleIn bytes m
@@ -80,6 +106,7 @@ IsRead OfFile = ⊤
 
 abbrev pub PlanReads : Plan → Type 0
 PlanReads (ToResolve origin form common) = IsRead origin
+PlanReads (Seek sought workers) = ⊤
 PlanReads ToCheck = ⊤
 PlanReads (ToBuild made) = ⊤
 PlanReads (Multiply numbers) = ⊥

@@ -1,5 +1,5 @@
 -- What a run promises: how it ended, and what it did with its source, its sink, standard error and its disk.
-use Rattle.std.specs.Prelude.{◌≡◌, ◌≢◌, ℕ, ◌≤◌, ◌⊎◌, List, [], Option, Some, None, IsSome, IfSome, Result, Ok, Err, ⊤}
+use Rattle.std.specs.Prelude.{◌≡◌, ◌≢◌, ℕ, ◌≤◌, ◌⊎◌, Bool, true, List, [], Option, Some, None, IsSome, IfSome, Result, Ok, Err, ⊤}
 use Rattle.bidegree.specs.declared.range.Range.{Range}
 use Rattle.edge.specs.Faults.{HasRisen}
 use Rattle.edge.specs.Source.{without_first, HasGivenUpTo}
@@ -16,6 +16,7 @@ use Rattle.ext_run.specs.Devices.{Device, Store}
 use Rattle.ext_run.specs.Plan.{Reads, live_for, verifying, use_for}
 use Rattle.ext_run.specs.Answer.{IsAskedAnswer, IsAskedRefusal}
 use Rattle.ext_run.specs.Disks.{Outcome, IsRefused, IsUncertified, IsUsable, IsCertified, HasSaved}
+use Rattle.ext_run.specs.Courses.{HasAskedCourse}
 use Rattle.ext_run.specs.Ending.{HasTold, HasGotWhole, HasGotPart}
 use Rattle.ext_run.specs.Live.{HasToldLive}
 
@@ -87,9 +88,10 @@ abbrev pub HasSaid : {E F : Type 0} → Device E → Result (Unit {0}) F → Out
 HasSaid err (Ok heard) outcome old new = HasReported err None outcome old new
 HasSaid err (Err unheard) outcome old new = new ≡ old
 
--- The promise of a run, of which something is asked by its words. The devices are seen before and after it.
+-- The promise of a run, of which something is asked by its words, and which has as many workers as these say or none at all. The devices
+-- are seen before and after it.
 pub record IsRun {S O E D : Type 0} (source : Device S) (out : Device O) (err : Device E) (disk : Store D)
-    (asked : Option Plan) (status : ℕ) (s t : S) (o p : O) (e f : E) (d g : D) : Type 0 where
+    (asked : Option Plan) (has_workers : Bool) (status : ℕ) (s t : S) (o p : O) (e f : E) (d g : D) : Type 0 where
   -- the input is what the source has left, where that is told
   pub input : List ℕ
   pub told : IfSome (source.shows s) (λ l. input ≡ l)
@@ -104,6 +106,8 @@ pub record IsRun {S O E D : Type 0} (source : Device S) (out : Device O) (err : 
       (outcome ≡ answer) ⊎ IsPrevented answer outcome
   -- the file of a real projective space is a module
   pub no_space_refused : IsSpaceFile input → (file : File) (e : CheckFault) → outcome ≢ Err (NotModule file e)
+  -- workers made what they are asked for at a board, in one history
+  pub worked : has_workers ≡ true → HasAskedCourse disk asked input outcome d g
   -- and this became of the devices
   pub read : HasRead source (Reads asked) outcome s t
   pub printed : HasPrinted out (λ text. IsUsable disk asked input d → IsAskedAnswer asked input (Ok text)) outcome o p

@@ -6,10 +6,11 @@ use Rattle.ext_words.specs.Words.{IsRangeWithin, IsWithin}
 use Rattle.ext_report.specs.declared.failure.Failure.{Failure}
 use Rattle.ext_build.specs.Building.{IsBuildAnswer}
 use Rattle.ext_run.specs.declared.plan.Plan.{Plan}
-use Rattle.ext_run.specs.declared.plan.Plan.TheVariants.{Resolve, Check, Build, Multiply, Migrate, Verify}
+use Rattle.ext_run.specs.declared.plan.Form.TheVariants.{Sought as ToTell}
+use Rattle.ext_run.specs.declared.plan.Plan.TheVariants.{Resolve, Seek, Check, Build, Multiply, Migrate, Verify}
 use Rattle.ext_run.specs.declared.task.Task.{Task}
 use Rattle.ext_run.specs.declared.task.Task.TheVariants.{Text, Resolution, Migration, Verification}
-use Rattle.ext_run.specs.Plan.{IsModuleIn, IsModuleAt, Use, migrating, verifying, use_where}
+use Rattle.ext_run.specs.Plan.{common_for, IsModuleIn, IsModuleAt, Use, migrating, verifying, use_where}
 use Rattle.ext_run.specs.Forms.{IsVerifiedChart, IsText, IsInForm}
 use Rattle.ext_run.specs.Answer.{IsLineOn, IsMigrated, IsProduct}
 
@@ -42,6 +43,8 @@ use_in (Verification m range) = Some (verifying range)
 abbrev pub IsTaskOf : Plan → List ℕ → Task → Type 0
 IsTaskOf (Resolve origin form common) bytes (Resolution r) =
     (r.form ≡ form) × (r.common ≡ common) × IsModuleAt origin bytes r.resolved.plain
+IsTaskOf (Seek sought workers) bytes (Resolution r) =
+    (r.form ≡ ToTell sought) × (r.common ≡ common_for sought workers r.resolved.plain) × IsModuleIn bytes r.resolved.plain
 IsTaskOf Check bytes (Text made) = (m : SteenrodModule) × IsModuleIn bytes m × IsLineOn m made.items
 IsTaskOf (Build made) bytes (Text text) = IsBuildAnswer made bytes (Ok text.items)
 IsTaskOf (Multiply numbers) bytes (Text text) = IsProduct numbers text.items

@@ -1,5 +1,5 @@
 //! The answer to words: from a command line, and a module file where the command reads one, to the text on a sink.
-ghost use Rattle.std.specs.Prelude.{◌≡◌, ◌⊎◌, false, Ok, Err, IfOk, IfErr};
+ghost use Rattle.std.specs.Prelude.{◌≡◌, ◌⊎◌, true, false, Ok, Err, IfOk, IfErr};
 ghost use Rattle.ext_words.specs.Words.{texts_of, has_live};
 ghost use Rattle.ext_report.specs.declared.failure.Failure as Failure;
 ghost use Rattle.ext_report.specs.Failure.{status_of};
@@ -29,9 +29,10 @@ pub struct Ended<D> {
 /// the answer goes to `out`, and the line of a failure to `err`. Where the words say `--live`, lines with rising numbers go to `err`
 /// before it, and the last one before a text has the number of all squares.
 ///
-/// No clause says how the work is done: as many workers make squares as the words say, each in a thread of its own where one can be
-/// made, and each calls the gate with each square that it has taken. Where the words say one worker and no `--live`, and where nothing
-/// is resolved, all is done as by `run_one`, which waits for no thread. The numbers of `--live` count the squares of the range that are
+/// As many workers make squares as the words say, each in a thread of its own where one can be made, and each calls the gate with each
+/// square that it has taken. One history led to the squares, in which each worker took one after the other, and there is nothing else
+/// in it. Where the words say one worker and no `--live`, and where nothing is resolved, all is done as by `run_one`, which waits for no
+/// thread and has no such history. The numbers of `--live` count the squares of the range that are
 /// finished, some ten times a second at most, and after a failed write `err` gets nothing more.
 ///
 /// Where the words say `--save`, the squares of the module's save file on `disk` are taken up, and each new one is kept there. Where they
@@ -70,8 +71,8 @@ pub fn run<
     gate: &G,
 ) -> Ended<D>
     ensures { IsRun (device_of S.left S.faults) (device_of O.written O.faults) (device_of E.written E.faults)
-        (store_of D.now D.moment D.images D.images_at D.since D.faults) (asked_by (texts_of words.now)) result.status
-        source.old source.new out.old out.new err.old err.new disk result.disk }
+        (store_of D.now D.moment D.images D.images_at D.since D.faults) (asked_by (texts_of words.now)) true
+        result.status source.old source.new out.old out.new err.old err.new disk result.disk }
 {
     match task_from(alloc, words, source) {
         Ok(task) => {
@@ -99,8 +100,8 @@ pub fn run_one<R, S: Source, O: Sink, E: Sink, D: Disk>(
 ) -> Ended<D>
     requires { has_live words.now ≡ false }
     ensures { IsRun (device_of S.left S.faults) (device_of O.written O.faults) (device_of E.written E.faults)
-        (store_of D.now D.moment D.images D.images_at D.since D.faults) (asked_by (texts_of words.now)) result.status
-        source.old source.new out.old out.new err.old err.new disk result.disk }
+        (store_of D.now D.moment D.images D.images_at D.since D.faults) (asked_by (texts_of words.now)) false
+        result.status source.old source.new out.old out.new err.old err.new disk result.disk }
 {
     match task_from(alloc, words, source) {
         Ok(task) => {

@@ -1,7 +1,8 @@
 //! Sheets on a resolution of which the images of generators are made, and no table of squares.
-ghost use Rattle.std.specs.Prelude.{◌≡◌, ◌≤◌, ◌<◌, IfOk};
+ghost use Rattle.std.specs.Prelude.{◌≡◌, ◌≤◌, ◌<◌, IfOk, OnOk, ⊤};
 ghost use Rattle.bidegree.specs.declared.range.TheConstants.{MAX_S, MAX_T};
 ghost use Rattle.live_worker.specs.Reports.{squares_of, HasReported};
+ghost use Rattle.ext_run.specs.Courses.{HasCourse};
 ghost use Rattle.ext_run.specs.Forms.{IsReadOff, sheet_of};
 ghost use Rattle.ext_run.specs.Inside.Images.{AreOfResolution};
 
@@ -55,7 +56,7 @@ pub(crate) fn sheet_alone(
 ///
 /// # Errors
 /// `Memory` if allocation fails.
-fn images_through(
+pub(crate) fn images_through(
     alloc: Global,
     resolved: Module,
     range: Range,
@@ -95,7 +96,8 @@ pub(crate) fn sheet_by<W: Threads + Wait + Clock + Sync, G: Gate + Sync>(
     requires some { 0 < workers }
     requires rows { range.s ≤ MAX_S }
     requires degrees { range.t ≤ MAX_T }
-    ensures { IfOk result (λ text. IsReadOff (sheet_of sheet shape range) range resolved.plain text.items) }
+    ensures course { OnOk result (HasCourse workers range shape resolved.plain ⊤) }
+    ensures text { IfOk result (λ text. IsReadOff (sheet_of sheet shape range) range resolved.plain text.items) }
 {
     canonical_table_exists();
     canonical_table_is_minimal_resolution();
@@ -111,7 +113,7 @@ pub(crate) fn sheet_by<W: Threads + Wait + Clock + Sync, G: Gate + Sync>(
 ///
 /// # Errors
 /// `Memory` if allocation fails.
-fn images_through_by<W: Threads + Wait + Clock + Sync, G: Gate + Sync>(
+pub(crate) fn images_through_by<W: Threads + Wait + Clock + Sync, G: Gate + Sync>(
     wait: &W,
     alloc: Global,
     workers: usize,
@@ -123,7 +125,8 @@ fn images_through_by<W: Threads + Wait + Clock + Sync, G: Gate + Sync>(
     requires some { 0 < workers }
     requires rows { range.s ≤ MAX_S }
     requires degrees { range.t ≤ MAX_T }
-    ensures { IfOk result (AreOfResolution shape range resolved) }
+    ensures course { OnOk result (HasCourse workers range shape resolved.plain ⊤) }
+    ensures are { IfOk result (AreOfResolution shape range resolved) }
 {
     canonical_table_exists();
     canonical_table_is_minimal_resolution();
@@ -160,6 +163,7 @@ pub(crate) fn sheet_live<W: Threads + Wait + Clock + Sync, E: Sink + Send, G: Ga
     requires rows { range.s ≤ MAX_S }
     requires degrees { range.t ≤ MAX_T }
     ensures text { IfOk result.0 (λ text. IsReadOff (sheet_of sheet shape range) range resolved.plain text.items) }
+    ensures course { OnOk result.0 (HasCourse workers range shape resolved.plain ⊤) }
     ensures reported { HasReported (squares_of range) result.0 result.1 (E.written err.old) (E.written err.new)
         (E.faults err.old) (E.faults err.new) }
 {

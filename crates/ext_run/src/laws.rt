@@ -21,7 +21,8 @@ pub fn answer_exists()
     resolution_laws::canonical_table_is_minimal_resolution();
     module_check::modules_are_graded_modules();
     module_check::accepted_is_module();
-    ext_products::products_answer_exists();
+    ext_table::each_layout_has_answer();
+    ext_products::one_product_answer_exists();
     ext_brackets::bracket_answer_exists();
     adem_laws::admissible_basis();
 }

@@ -2,7 +2,6 @@
 #![tactic(auto)]
 
 mod answer;
-mod brackets_over_images;
 mod from_images;
 mod laws;
 mod migrating;
@@ -10,6 +9,8 @@ mod plan;
 mod products_over_images;
 mod row_one;
 mod sheets;
+mod sought;
+mod sought_over_images;
 mod task;
 mod texts;
 mod verifying;

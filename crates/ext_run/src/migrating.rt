@@ -1,7 +1,6 @@
 //! A save file is brought up to date: each of its squares gets its quasi-inverse.
-ghost use Rattle.std.specs.Prelude.{◌≡◌, ◌≢◌, ℕ, ◌≤◌, ◌↔◌, ◌⊎◌, IsSome, IfSome, IfNone, Err, IfOk, IfErr, OnOk, IsOk};
+ghost use Rattle.std.specs.Prelude.{◌≡◌, ℕ, ◌≤◌, ◌↔◌, ◌⊎◌, IfSome, IfNone, Err, IfOk, IfErr, OnOk, IsOk};
 ghost use Rattle.bidegree.specs.declared.range.TheConstants.{MAX_S, MAX_T};
-ghost use Rattle.f2_matrix.specs.Reduction.{Reduction};
 ghost use Rattle.square.specs.declared.keep.KeepFault as KeepFault;
 ghost use Rattle.square.specs.Tables.{square_at, IsTable, IsQuasiAt, LacksQuasi};
 ghost use Rattle.ext_chart.specs.Files.{migrated_line};
@@ -10,7 +9,7 @@ ghost use Rattle.ext_run.specs.declared.task.Task.TheVariants.{Migration};
 ghost use Rattle.ext_run.specs.Devices.{store_of};
 ghost use Rattle.ext_run.specs.Plan.{migrating};
 ghost use Rattle.ext_run.specs.Work.{HasUsed};
-ghost use Rattle.ext_run.specs.Inside.Adding.{IsFileOf, HasFilled};
+ghost use Rattle.ext_run.specs.Inside.Adding.{IsFileOf, IsLeftOut, HasFilled};
 
 use crate::texts::leave;
 use bidegree::{MAX_S, MAX_T};
@@ -23,13 +22,13 @@ use finite_module::Module;
 use memory::Memory;
 use module_check::modules_are_graded_modules;
 use resolution_laws::canonical_table_is_minimal_resolution;
-use save_file::{SaveFile, quasi_by_inverse, resume};
+use save_file::{SaveFile, may_be_exact, quasi_by_inverse, resume};
 use square::{KeepFault, Table};
 use std::alloc::Global;
 
 /// The line on a save file that was brought up to date, once the quasi-inverse of each square that the file has without one stands
 /// behind its records, row by row and in a row by degree. A square whose kernel rows are not those of its quasi-inverse is left
-/// out: a file that runs of this program have left has none. The disk is handed back.
+/// out, and one at which d_s is not exact may be: a file that runs of this program have left has none. The disk is handed back.
 pub(crate) fn migrated<D: Disk>(
     alloc: Global,
     module: Module,
@@ -118,6 +117,8 @@ fn fill_square<D: Disk>(
     ensures { HasFilled (store_of D.now D.moment D.images D.images_at D.since D.faults) (λ i k. (i ≡ s) × (k ≡ above))
         result table.old table.new file.old file.new }
 {
+    canonical_table_is_minimal_resolution();
+    modules_are_graded_modules();
     let t = table.degree(above);
     let Some(quasi) = lacking(alloc, table, s, t)? else {
         return Ok(());
@@ -128,21 +129,26 @@ fn fill_square<D: Disk>(
     file.keep_quasi(table, s, t)
 }
 
-/// The quasi-inverse of a square that has none, if the square is there and its kernel rows are those of the quasi-inverse.
+/// The quasi-inverse of a square that has none, if the square is there and its kernel rows are those of the quasi-inverse. It may be
+/// none where d_s is not exact, by the kernel rows of the table: so a great matrix is not made for few rows.
 ///
 /// # Errors
 /// `Memory` if allocation fails.
 fn lacking(alloc: Global, table: &Table, s: u16, t: i32) -> Result<Option<Reduced>, Memory>
     ensures lacks { IfOk result (λ found. IfSome found (λ quasi. LacksQuasi table.now s t quasi)) }
     ensures quasi { IfOk result (λ found. IfSome found (λ quasi. IsQuasiAt table.now s t quasi)) }
-    ensures none { IfOk result (λ found. IfNone found (IfSome (square_at table.now s t) (λ q. IsSome q.quasi
-        ⊎ ((r : Reduction) × IsQuasiAt table.now s t r × (r.kernel ≢ q.content.kernel))))) }
+    ensures none { IfOk result
+        (λ found. IfNone found (IfSome (square_at table.now s t) (IsLeftOut table.now s t))) }
     ensures is_table { IsTable table.now }
 {
     let Some(square) = table.at(s, t) else {
         return Ok(None);
     };
     if square.kept_quasi().is_some() {
+        return Ok(None);
+    }
+    let may = may_be_exact(alloc, table, s, t)?;
+    if !may {
         return Ok(None);
     }
     let quasi = quasi_by_inverse(alloc, table, s, t)?;

@@ -5,22 +5,25 @@ ghost use Rattle.std.specs.List.{sum};
 ghost use Rattle.edge.specs.Faults.{HasRisen};
 ghost use Rattle.edge.specs.Source.{without_first, HasGivenUpTo};
 ghost use Rattle.ext_words.specs.declared.command.TheConstants.{MAX_SQUARES_DEGREE};
-ghost use Rattle.ext_words.specs.Words.{texts_of};
+ghost use Rattle.ext_words.specs.Words.{texts_of, AreWorkers};
 ghost use Rattle.ext_report.specs.declared.failure.Failure as Failure;
 ghost use Rattle.read_module.specs.Input.{IsOfInput, most_read};
-ghost use Rattle.ext_run.specs.Plan.{asked_by, IsPlanWithin, IsModuleAt, IsRead, PlanReads, Reads};
+ghost use Rattle.ext_run.specs.Plan.{common_for, asked_by, IsPlanWithin, IsModuleAt, IsRead, PlanReads, Reads};
 ghost use Rattle.ext_run.specs.Answer.{IsLineOn, IsProduct, IsTaskCauseFrom, IsOriginCauseFrom};
 ghost use Rattle.ext_run.specs.Task.{HasItsAnswer, IsTaskWithin, IsTaskOf, IsTaskFor};
+ghost use Rattle.ext_run.specs.declared.plan.Form.TheVariants.{Sought as ToTell};
 ghost use Rattle.ext_run.specs.declared.task.Task.TheVariants.{Resolution as ToResolve};
 
-use crate::plan::{Form, Origin, Plan, plan_of};
-use bidegree::Range;
+use crate::plan::{Form, Origin, Plan, Sought, plan_of};
+use crate::sought::range_for;
+use bidegree::{Range, Shape};
 use edge::Source;
 use ext_brackets::bracket_answer_exists;
 use ext_build::built_text;
 use ext_chart::{check_line, product};
-use ext_products::products_answer_exists;
+use ext_products::one_product_answer_exists;
 use ext_report::Failure;
+use ext_table::each_layout_has_answer;
 use ext_words::{Common, parse};
 use memory::Memory;
 use milnor_basis::Basis;
@@ -75,7 +78,8 @@ pub(crate) fn task_from<S: Source>(
     canonical_table_is_minimal_resolution();
     modules_are_graded_modules();
     accepted_is_module();
-    products_answer_exists();
+    each_layout_has_answer();
+    one_product_answer_exists();
     bracket_answer_exists();
     let command = parse(alloc, words)?;
     task_for(alloc, plan_of(command), source)
@@ -103,6 +107,10 @@ fn task_for<S: Source>(alloc: Global, plan: Plan, source: &mut S) -> Result<Task
         } => {
             let resolved = module_from(alloc, origin, source)?;
             Ok(to_resolve(resolved, common, form))
+        }
+        Plan::Seek { sought, workers } => {
+            let resolved = read_module(alloc, source)?;
+            Ok(to_seek(resolved, workers, sought))
         }
         Plan::Check => {
             let module = read_module(alloc, source)?;
@@ -143,6 +151,26 @@ fn to_resolve(resolved: Module, common: Common, form: Form) -> Task
         common,
         form,
     })
+}
+
+/// A module to resolve by so many workers through the least range that has what is sought.
+fn to_seek(resolved: Module, workers: u32, sought: Sought) -> Task
+    requires { AreWorkers workers }
+    ensures task { result ≡ ToResolve (record {
+      resolved = resolved;
+      common = common_for sought workers resolved.plain;
+      form = ToTell sought;
+    }) }
+    ensures limits { IsTaskWithin result }
+{
+    let common = Common {
+        range: range_for(sought, &resolved),
+        shape: Shape::Rectangle,
+        workers,
+        save: false,
+        live: false,
+    };
+    to_resolve(resolved, common, Form::Sought(sought))
 }
 
 /// The line on a module.

@@ -1,7 +1,7 @@
 //! The text of a task: a module is resolved, by the caller alone or by workers, over its save file if the words say so,
 //! and what is made of it is told: a table, or the images of generators alone. Workers may report how far they are.
 //! Or the save file is all that is used.
-ghost use Rattle.std.specs.Prelude.{◌≡◌, ◌≤◌, ◌⊎◌, true, false, None, Err, IfErr};
+ghost use Rattle.std.specs.Prelude.{◌≡◌, ◌≢◌, ◌≤◌, ◌⊎◌, true, false, None, Err, IfErr, OnErr};
 ghost use Rattle.bidegree.specs.declared.range.TheConstants.{MAX_S, MAX_T};
 ghost use Rattle.board_core.specs.declared.event.Cause as Cause;
 ghost use Rattle.resolution_step.specs.Alone.{AreApart, IsUntouched, HasResolved};
@@ -11,28 +11,30 @@ ghost use Rattle.ext_run.specs.declared.plan.Form as Form;
 ghost use Rattle.ext_run.specs.declared.task.Task.TheVariants.{Resolution as ToResolve};
 ghost use Rattle.ext_run.specs.Devices.{device_of, store_of};
 ghost use Rattle.ext_run.specs.Plan.{keeping, live_where};
+ghost use Rattle.square_worker.specs.Worked.{HasResolvedBy};
+ghost use Rattle.ext_run.specs.Courses.{HasText, by_workers, shape_of, HasCourse, HasKeptCourse, HasTaskCourse};
 ghost use Rattle.ext_run.specs.Live.{live_in, HasHeard};
 ghost use Rattle.ext_run.specs.Forms.{IsResolved, IsInForm, IsRefusedIn};
 ghost use Rattle.ext_words.specs.Words.{IsWithin};
 ghost use Rattle.ext_run.specs.Task.{IsTaskWithin};
 ghost use Rattle.ext_run.specs.Work.{HasAnswer, answer_of, HasContinued, HasUsed, HasWorked};
-ghost use Rattle.ext_report.specs.declared.failure.Failure.TheVariants.{Memory as WantOfMemory};
+ghost use Rattle.ext_report.specs.declared.failure.Failure.TheVariants.{Memory as WantOfMemory, Saving};
 
-use crate::brackets_over_images::{bracket_alone, bracket_by};
 use crate::from_images::{sheet_alone, sheet_by, sheet_live};
 use crate::migrating::migrated;
 use crate::plan::{Form, Sheet};
 use crate::products_over_images::{products_alone, products_by};
 use crate::sheets::sheet_text;
+use crate::sought::sought_text;
+use crate::sought_over_images::{sought_alone, sought_by};
 use crate::task::{Resolution, Task};
 use crate::verifying::verified;
 use bidegree::{Range, Shape};
 use board_core::Cause;
 use chain_map::{Held, Source};
 use edge::{Disk, Failed, Sink};
-use ext_brackets::bracket_text;
-use ext_products::products_text;
 use ext_report::Failure;
+use ext_table::products_in;
 use ext_words::Common;
 use finite_module::Module;
 use live_worker::resolve_live;
@@ -74,6 +76,7 @@ pub(crate) fn text_alone<D: Disk>(
 /// The text of a task, made by as many workers as it says, which report on `err` how far they are if it says so. Where there is one
 /// worker and no report, or nothing to resolve, nothing waits. The last of what it gives says whether `err` failed; then nothing was
 /// written to it since.
+#[tactic(auto, using(crate::proofs::Courses::course_saved, crate::proofs::Courses::course_unsaved, crate::proofs::Courses::course_alone))]
 pub(crate) fn text_by_workers<
     W: Threads + Wait + Clock + Sync,
     E: Sink + Send,
@@ -90,6 +93,8 @@ pub(crate) fn text_by_workers<
     requires { IsTaskWithin task }
     ensures worked { HasWorked (store_of D.now D.moment D.images D.images_at D.since D.faults) task
         result.0 disk result.1 }
+    ensures course { HasTaskCourse (store_of D.now D.moment D.images D.images_at D.since D.faults) task result.0 disk
+        result.1 }
     ensures heard { HasHeard (device_of E.written E.faults) (live_in task) result.0 result.2 err.old err.new }
 {
     match task {
@@ -110,7 +115,8 @@ pub(crate) fn text_by_workers<
 
 /// Whether workers make the squares, and not the caller. One that reports has a watcher beside it.
 fn is_by_workers(common: Common) -> bool
-    ensures { result ≡ false → live_where common.live common.range ≡ None }
+    ensures is { result ≡ by_workers common }
+    ensures none { result ≡ false → live_where common.live common.range ≡ None }
 {
     common.live || common.workers > 1
 }
@@ -132,8 +138,10 @@ fn unsaved_alone(alloc: Global, resolution: Resolution) -> Result<Vec<u8>, Failu
     let range = common.range;
     match form {
         Form::Squares(sheet, shape) => Ok(sheet_alone(alloc, resolved, sheet, range, shape)?),
-        Form::Products(by) => products_alone(alloc, resolved, range, by.as_slice()),
-        Form::Bracket { a, b, c } => bracket_alone(alloc, resolved, range, a, b, c),
+        Form::Products(layout, by, shape) => {
+            products_alone(alloc, resolved, layout, range, shape, by.as_slice())
+        }
+        Form::Sought(sought) => sought_alone(alloc, resolved, range, sought),
     }
 }
 
@@ -151,6 +159,8 @@ fn unsaved_by_workers<W: Threads + Wait + Clock + Sync, E: Sink + Send, G: Gate 
         IsInForm resolution.form resolution.common.range resolution.resolved.plain (answer_of result.0) }
     ensures why { IfErr result.0 (λ e. (e ≡ WantOfMemory)
         ⊎ IsRefusedIn resolution.form resolution.common.range resolution.resolved.plain (Err e)) }
+    ensures course { HasCourse resolution.common.workers resolution.common.range (shape_of resolution.form)
+        resolution.resolved.plain (HasText result.0) }
     ensures heard { HasHeard (device_of E.written E.faults) (live_where resolution.common.live resolution.common.range)
         result.0 result.1 err.old err.new }
 {
@@ -171,14 +181,16 @@ fn unsaved_by_workers<W: Threads + Wait + Clock + Sync, E: Sink + Send, G: Gate 
                 Err(Memory) => (Err(Failure::Memory), Ok(())),
             }
         }
-        (Form::Products(by), false) => {
-            let workers = common.workers as usize;
-            let text = products_by(wait, alloc, workers, resolved, range, by.as_slice(), gate);
+        (Form::Products(layout, by, shape), false) => {
+            let (workers, by) = (common.workers as usize, by.as_slice());
+            let text = products_by(
+                wait, alloc, workers, resolved, layout, range, shape, by, gate,
+            );
             (text, Ok(()))
         }
-        (Form::Bracket { a, b, c }, false) => {
+        (Form::Sought(sought), false) => {
             let workers = common.workers as usize;
-            let text = bracket_by(wait, alloc, workers, resolved, range, a, b, c, gate);
+            let text = sought_by(wait, alloc, workers, resolved, range, sought, gate);
             (text, Ok(()))
         }
         (form, _) => tabled_by_workers(wait, alloc, resolved, form, common, err, gate),
@@ -202,6 +214,7 @@ fn live_sheet<W: Threads + Wait + Clock + Sync, E: Sink + Send, G: Gate + Sync>(
     ensures told { HasAnswer result.0 →
         IsInForm (Form.Squares sheet shape) common.range resolved.plain (answer_of result.0) }
     ensures why { IfErr result.0 (λ e. e ≡ WantOfMemory) }
+    ensures course { HasCourse common.workers common.range shape resolved.plain (HasText result.0) }
     ensures heard { HasHeard (device_of E.written E.faults) (live_where common.live common.range) result.0 result.1
         err.old err.new }
 {
@@ -236,6 +249,7 @@ fn tabled_by_workers<W: Threads + Wait + Clock + Sync, E: Sink + Send, G: Gate +
     requires { IsWithin common }
     ensures told { HasAnswer result.0 → IsInForm form common.range resolved.plain (answer_of result.0) }
     ensures why { IfErr result.0 (λ e. (e ≡ WantOfMemory) ⊎ IsRefusedIn form common.range resolved.plain (Err e)) }
+    ensures course { HasCourse common.workers common.range (shape_of form) resolved.plain (HasText result.0) }
     ensures heard { HasHeard (device_of E.written E.faults) (live_where common.live common.range) result.0 result.1
         err.old err.new }
 {
@@ -292,6 +306,9 @@ fn saved_by_workers<
     requires { IsWithin resolution.common }
     ensures kept { HasUsed (store_of D.now D.moment D.images D.images_at D.since D.faults)
         (keeping resolution.common.range) resolution.resolved.plain (ToResolve resolution) result.0 disk result.1 }
+    ensures course { HasKeptCourse (store_of D.now D.moment D.images D.images_at D.since D.faults)
+        resolution.common.workers resolution.common.range (shape_of resolution.form) resolution.resolved.plain
+        (HasText result.0) (result.0 ≢ Err Saving) disk result.1 }
     ensures heard { HasHeard (device_of E.written E.faults) (live_where resolution.common.live resolution.common.range)
         result.0 result.2 err.old err.new }
 {
@@ -363,6 +380,7 @@ fn told_by_workers<
     requires of_table { IsKeeperOf (K.telling keeper) table }
     ensures continued { HasContinued common.range form table result.0 (K.telling keeper) (K.telling result.1) }
     ensures untouched { IsUntouched K.telling keeper result.1 }
+    ensures worked { HasResolvedBy K.telling common.workers common.range table (HasText result.0) keeper result.1 }
     ensures heard { HasHeard (device_of E.written E.faults) (live_where common.live common.range) result.0 result.2
         err.old err.new }
 {
@@ -404,6 +422,7 @@ fn resolved_by_workers<
     ensures resolved { HasResolved Cause.Failed Cause.Memory AreApart common.range table result.0 (K.telling keeper)
         (K.telling result.1) }
     ensures untouched { IsUntouched K.telling keeper result.1 }
+    ensures worked { HasResolvedBy K.telling common.workers common.range table (OnErr result.0 ⊥) keeper result.1 }
     ensures heard { HasHeard (device_of E.written E.faults) (live_where common.live common.range) result.0 result.2
         err.old err.new }
 {
@@ -444,17 +463,17 @@ fn told(alloc: Global, form: Form, table: &Table, range: Range) -> Result<Vec<u8
     accepted_is_module();
     match form {
         Form::Squares(sheet, shape) => Ok(sheet_text(alloc, sheet, table, range, shape)?),
-        Form::Products(by) => {
+        Form::Products(layout, by, shape) => {
             let source = Source {
                 held: Held::Squares(table),
             };
-            Ok(products_text(alloc, &source, range, by.as_slice())?)
+            Ok(products_in(alloc, &source, layout, range, shape, by.as_slice())?)
         }
-        Form::Bracket { a, b, c } => {
+        Form::Sought(sought) => {
             let source = Source {
                 held: Held::Squares(table),
             };
-            Ok(bracket_text(alloc, &source, range, a, b, c)?)
+            Ok(sought_text(alloc, &source, range, sought)?)
         }
     }
 }

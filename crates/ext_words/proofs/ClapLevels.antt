@@ -1,5 +1,5 @@
 -- What `clap` makes of the words behind a command's name: it uses the parts that the grammar finds in them, one after another.
-use Rattle.std.proofs.Common.{◌≡◌, ℕ, refl, inl, inr, ◌⊎◌, List, [], ◌∷◌, ◌++◌, Bool, true, false, Option, Some, None, ap, ap₂, sym, subst, ◌∙◌}
+use Rattle.std.proofs.Common.{◌≡◌, ℕ, refl, inl, inr, ◌⊎◌, List, [], ◌∷◌, Bool, true, false, Option, Some, None, ap, ap₂, sym, subst, ◌∙◌}
 use Rattle.std.specs.Prelude.{◌&&◌, option_and_then, option_to_list, is_some, MatchOption, if◌then◌else◌}
 use Rattle.std.specs.List.{fold}
 use Rattle.std.specs.Option.{option_map_or}

@@ -146,13 +146,16 @@ module _ (list : List Grammar) (g : Grammar) (own : find (λ h. bytes_eq h.name 
 
 are_sound : AreSound commands
 are_sound =
-    let verify : AreSound (drop 10 commands) = (record { words = refl; valued = refl; flags = refl; flags_once = refl; stands = (refl, refl, refl, (refl, refl, refl, refl)); no_defaults = refl; none_lacking = λ rows. refl }, tt) in
-    let migrate : AreSound (drop 9 commands) = (record { words = refl; valued = refl; flags = refl; flags_once = refl; stands = refl; no_defaults = refl; none_lacking = λ rows. refl }, verify) in
-    let sq : AreSound (drop 8 commands) = (record { words = refl; valued = refl; flags = refl; flags_once = refl; stands = (refl, refl, refl, refl); no_defaults = refl; none_lacking = λ rows. refl }, migrate) in
-    let sample : AreSound (drop 7 commands) = (record { words = refl; valued = refl; flags = refl; flags_once = refl; stands = (refl, refl, refl, (refl, refl, refl, (refl, refl, refl, refl))); no_defaults = refl; none_lacking = λ rows. refl }, sq) in
-    let build : AreSound (drop 6 commands) = (record { words = refl; valued = refl; flags = refl; flags_once = refl; stands = (refl, refl, refl, refl); no_defaults = refl; none_lacking = λ rows. refl }, sample) in
-    let check : AreSound (drop 5 commands) = (record { words = refl; valued = refl; flags = refl; flags_once = refl; stands = refl; no_defaults = refl; none_lacking = λ rows. refl }, build) in
-    let massey : AreSound (drop 4 commands) = (record { words = refl; valued = refl; flags = refl; flags_once = refl; stands = (refl, refl, refl, (refl, refl, refl, refl)); no_defaults = refl; none_lacking = λ rows. refl }, check) in
+    let table : AreSound (drop 13 commands) = (record { words = refl; valued = refl; flags = refl; flags_once = refl; stands = (refl, refl, refl, (refl, refl, refl, refl)); no_defaults = refl; none_lacking = λ rows. refl }, tt) in
+    let verify : AreSound (drop 12 commands) = (record { words = refl; valued = refl; flags = refl; flags_once = refl; stands = (refl, refl, refl, (refl, refl, refl, refl)); no_defaults = refl; none_lacking = λ rows. refl }, table) in
+    let migrate : AreSound (drop 11 commands) = (record { words = refl; valued = refl; flags = refl; flags_once = refl; stands = refl; no_defaults = refl; none_lacking = λ rows. refl }, verify) in
+    let sq : AreSound (drop 10 commands) = (record { words = refl; valued = refl; flags = refl; flags_once = refl; stands = (refl, refl, refl, refl); no_defaults = refl; none_lacking = λ rows. refl }, migrate) in
+    let sample : AreSound (drop 9 commands) = (record { words = refl; valued = refl; flags = refl; flags_once = refl; stands = (refl, refl, refl, (refl, refl, refl, (refl, refl, refl, refl))); no_defaults = refl; none_lacking = λ rows. refl }, sq) in
+    let build : AreSound (drop 8 commands) = (record { words = refl; valued = refl; flags = refl; flags_once = refl; stands = (refl, refl, refl, refl); no_defaults = refl; none_lacking = λ rows. refl }, sample) in
+    let check : AreSound (drop 7 commands) = (record { words = refl; valued = refl; flags = refl; flags_once = refl; stands = refl; no_defaults = refl; none_lacking = λ rows. refl }, build) in
+    let bracket : AreSound (drop 6 commands) = (record { words = refl; valued = refl; flags = refl; flags_once = refl; stands = refl; no_defaults = refl; none_lacking = λ rows. refl }, check) in
+    let product : AreSound (drop 5 commands) = (record { words = refl; valued = refl; flags = refl; flags_once = refl; stands = refl; no_defaults = refl; none_lacking = λ rows. refl }, bracket) in
+    let massey : AreSound (drop 4 commands) = (record { words = refl; valued = refl; flags = refl; flags_once = refl; stands = (refl, refl, refl, (refl, refl, refl, refl)); no_defaults = refl; none_lacking = λ rows. refl }, product) in
     let products : AreSound (drop 3 commands) = (record { words = refl; valued = refl; flags = refl; flags_once = refl; stands = (refl, refl, refl, (refl, refl, refl, refl)); no_defaults = refl; none_lacking = λ rows. refl }, massey) in
     let dump : AreSound (drop 2 commands) = (record { words = refl; valued = refl; flags = refl; flags_once = refl; stands = (refl, refl, refl, (refl, refl, refl, refl)); no_defaults = refl; none_lacking = λ rows. refl }, products) in
     let resolve : AreSound (drop 1 commands) = (record { words = refl; valued = refl; flags = refl; flags_once = refl; stands = (refl, refl, refl, (refl, refl, refl, refl)); no_defaults = refl; none_lacking = λ rows. refl }, dump) in

@@ -1,6 +1,6 @@
 -- Words without `--live` ask for no reports.
 use Rattle.std.proofs.Common.{◌≡◌, ◌≢◌, ◌∙◌, ℕ, refl, List, [], ◌∷◌, ◌++◌, ◌+◌, length, take, drop, arith, Bool, true, false, Option, Some, None, ap, ap₂, sym, take-append-drop}
-use Rattle.std.specs.Prelude.{◌==◌, ◌&&◌, cond, find, codes, option_map, option_and_then, IfSome, ⊤, if◌then◌else◌}
+use Rattle.std.specs.Prelude.{◌==◌, ◌&&◌, cond, find, codes, option_map, option_and_then, unwrap_or, IfSome, ⊤, if◌then◌else◌}
 use Rattle.std.specs.List.{position_or_len}
 use Rattle.std.specs.Borrow.{Bor}
 use Rattle.std.specs.Str.{bytes_eq}
@@ -14,9 +14,9 @@ use Rattle.bidegree.specs.declared.shape.Shape.TheVariants.{Rectangle}
 use Rattle.clap.proofs.WalkLemmas.{list_any-map}
 use Rattle.ext_words.specs.declared.command.Build.{Build}
 use Rattle.ext_words.specs.declared.command.Command.{Command}
-use Rattle.ext_words.specs.declared.command.Command.TheVariants.{Sphere, Resolve, Dump, Products, Massey, Build as Built, Sample, Sq, Verify}
+use Rattle.ext_words.specs.declared.command.Command.TheVariants.{Sphere, Resolve, Dump, Products, Massey, Product, Bracket, Build as Built, Sample, Sq, Verify, Table}
 use Rattle.ext_words.specs.declared.command.Common.{Common}
-use Rattle.ext_words.specs.Words.{Part, plain, option, Options, Given, Grammar, texts_of, has_live, is_in, is_among, begins_with, has_equals, before_equals, with_next, with_option, with_text, with_word, parts_of, plain_words, each_once, fits, given_from, is_given, text_given, class_given, classes_given, workers_of, seed_of, shape_of, range_of, is_refused_stems, common_of, products_of, massey_of, build_of, sample_of, product_given, commands, given_to, read_by, grammar_of, command_of}
+use Rattle.ext_words.specs.Words.{Part, plain, option, Options, Given, Grammar, texts_of, has_live, is_in, is_among, begins_with, has_equals, before_equals, with_next, with_option, with_text, with_word, parts_of, plain_words, each_once, fits, given_from, is_given, text_given, class_given, classes_given, workers_of, seed_of, shape_of, range_of, is_refused_stems, common_of, products_of, massey_of, one_product_of, bracket_of, build_of, sample_of, product_given, read_each, class_of, table_of, commands, given_to, read_by, grammar_of, command_of}
 
 abbrev Text : Type 0
 Text = List ℕ
@@ -130,6 +130,7 @@ AsksNone (Dump common) = IsSilent common
 AsksNone (Products common by) = IsSilent common
 AsksNone (Massey common a b c) = IsSilent common
 AsksNone (Sample n common) = IsSilent common
+AsksNone (Table common by) = IsSilent common
 AsksNone command = ⊤
 
 -- what is made of options that all have to be there
@@ -149,12 +150,30 @@ products-by None is by = tt
 products-by (Some common) is None = tt
 products-by (Some common) is (Some by) = is
 
+table-by : (common : Option Common) → IfSome common IsSilent → (by : Option (List Class)) → IfSome (option_and_then (λ common. option_map (λ by. Table common by) by) common) AsksNone
+table-by None is by = tt
+table-by (Some common) is None = tt
+table-by (Some common) is (Some by) = is
+
 massey-by : (common : Option Common) → IfSome common IsSilent → (a b c : Option Class) → IfSome (option_and_then (λ common. option_and_then (λ a. option_and_then (λ b. option_map (λ c. Massey common a b c) c) b) a) common) AsksNone
 massey-by None is a b c = tt
 massey-by (Some common) is None b c = tt
 massey-by (Some common) is (Some a) None c = tt
 massey-by (Some common) is (Some a) (Some b) None = tt
 massey-by (Some common) is (Some a) (Some b) (Some c) = is
+
+one_product-by : (n : Option ℕ) (a x : Option Class) → IfSome (option_and_then (λ n. option_and_then (λ a. option_map (λ x. Product n a x) x) a) n) AsksNone
+one_product-by None a x = tt
+one_product-by (Some n) None x = tt
+one_product-by (Some n) (Some a) None = tt
+one_product-by (Some n) (Some a) (Some x) = tt
+
+bracket-by : (n : Option ℕ) (a b c : Option Class) → IfSome (option_and_then (λ n. option_and_then (λ a. option_and_then (λ b. option_map (λ c. Bracket n a b c) c) b) a) n) AsksNone
+bracket-by None a b c = tt
+bracket-by (Some n) None b c = tt
+bracket-by (Some n) (Some a) None c = tt
+bracket-by (Some n) (Some a) (Some b) None = tt
+bracket-by (Some n) (Some a) (Some b) (Some c) = tt
 
 sample-by : (common : Option Common) → IfSome common IsSilent → (n : Option ℕ) → IfSome (option_and_then (λ n. option_map (λ common. Sample n common) common) n) AsksNone
 sample-by common is None = tt
@@ -194,6 +213,12 @@ module _ (given : Given) (none : is_given live given ≡ false) where
   massey-silent : IfSome (massey_of given) AsksNone
   massey-silent = massey-by (common_of given) common-silent (class_given (codes "a") given) (class_given (codes "b") given) (class_given (codes "c") given)
 
+  one_product-silent : IfSome (one_product_of given) AsksNone
+  one_product-silent = one_product-by (workers_of (text_given (codes "workers") given)) (class_given (codes "a") given) (class_given (codes "x") given)
+
+  bracket-silent : IfSome (bracket_of given) AsksNone
+  bracket-silent = bracket-by (workers_of (text_given (codes "workers") given)) (class_given (codes "a") given) (class_given (codes "b") given) (class_given (codes "c") given)
+
   sample-silent : IfSome (sample_of given) AsksNone
   sample-silent = sample-by (common_of given) common-silent (option_and_then seed_of (text_given (codes "N") given))
 
@@ -202,6 +227,9 @@ module _ (given : Given) (none : is_given live given ≡ false) where
 
   product-silent : IfSome (option_map Sq (product_given given)) AsksNone
   product-silent = product-by (product_given given)
+
+  table-silent : IfSome (table_of given) AsksNone
+  table-silent = table-by (common_of given) common-silent (read_each class_of (unwrap_or (given (codes "by")) []))
 
   verify-silent : IfSome (option_map Verify (range_of Rectangle given)) AsksNone
   verify-silent = verify-by (range_of Rectangle given)
@@ -218,13 +246,16 @@ ArePlain (g ∷ list) = IsPlain g × ArePlain list
 
 all-plain : ArePlain commands
 all-plain =
-    let verify : ArePlain (drop 10 commands) = (record { valued = refl; words = refl; makes = verify-silent }, tt) in
-    let migrate : ArePlain (drop 9 commands) = (record { valued = refl; words = refl; makes = λ given none. tt }, verify) in
-    let sq : ArePlain (drop 8 commands) = (record { valued = refl; words = refl; makes = product-silent }, migrate) in
-    let sample : ArePlain (drop 7 commands) = (record { valued = refl; words = refl; makes = sample-silent }, sq) in
-    let build : ArePlain (drop 6 commands) = (record { valued = refl; words = refl; makes = build-silent }, sample) in
-    let check : ArePlain (drop 5 commands) = (record { valued = refl; words = refl; makes = λ given none. tt }, build) in
-    let massey : ArePlain (drop 4 commands) = (record { valued = refl; words = refl; makes = massey-silent }, check) in
+    let table : ArePlain (drop 13 commands) = (record { valued = refl; words = refl; makes = table-silent }, tt) in
+    let verify : ArePlain (drop 12 commands) = (record { valued = refl; words = refl; makes = verify-silent }, table) in
+    let migrate : ArePlain (drop 11 commands) = (record { valued = refl; words = refl; makes = λ given none. tt }, verify) in
+    let sq : ArePlain (drop 10 commands) = (record { valued = refl; words = refl; makes = product-silent }, migrate) in
+    let sample : ArePlain (drop 9 commands) = (record { valued = refl; words = refl; makes = sample-silent }, sq) in
+    let build : ArePlain (drop 8 commands) = (record { valued = refl; words = refl; makes = build-silent }, sample) in
+    let check : ArePlain (drop 7 commands) = (record { valued = refl; words = refl; makes = λ given none. tt }, build) in
+    let bracket : ArePlain (drop 6 commands) = (record { valued = refl; words = refl; makes = bracket-silent }, check) in
+    let product : ArePlain (drop 5 commands) = (record { valued = refl; words = refl; makes = one_product-silent }, bracket) in
+    let massey : ArePlain (drop 4 commands) = (record { valued = refl; words = refl; makes = massey-silent }, product) in
     let products : ArePlain (drop 3 commands) = (record { valued = refl; words = refl; makes = products-silent }, massey) in
     let dump : ArePlain (drop 2 commands) = (record { valued = refl; words = refl; makes = dump-silent }, products) in
     let resolve : ArePlain (drop 1 commands) = (record { valued = refl; words = refl; makes = resolve-silent }, dump) in

@@ -9,7 +9,7 @@ use Rattle.bidegree.specs.declared.range.Range.{Range}
 use Rattle.bidegree.specs.declared.range.TheConstants.{MAX_S, MAX_T}
 use Rattle.ext_words.specs.declared.command.TheConstants.{MAX_WORKERS, MAX_SQUARES, MAX_SQUARES_DEGREE, MAX_SHIFT}
 use Rattle.ext_words.specs.declared.command.Command.{Command}
-use Rattle.ext_words.specs.declared.command.Command.TheVariants.{Products, Massey}
+use Rattle.ext_words.specs.declared.command.Command.TheVariants.{Products, Massey, Table}
 use Rattle.ext_words.specs.Words.{Given, is_in, number_up_to, positive_up_to, shift_of, seed_of, product_of, class_of, given_of, command_of}
 
 -- ---- words in a line
@@ -31,7 +31,7 @@ shown word = if is_shown word then word else codes "a word that is not shown"
 abbrev pub value_names : List (List ℕ)
 value_names =
     codes "N" ∷ codes "S" ∷ codes "T" ∷ codes "W" ∷ codes "OP" ∷ codes "workers" ∷ codes "degrees" ∷ codes "by"
-    ∷ codes "a" ∷ codes "b" ∷ codes "c" ∷ []
+    ∷ codes "a" ∷ codes "b" ∷ codes "c" ∷ codes "x" ∷ []
 
 -- whether a word or an option of this name may be this text
 abbrev pub is_right : List ℕ → List ℕ → Bool
@@ -91,8 +91,11 @@ form_of name =
     Some (codes "resolve S T [--workers=W] [--save] [--live], or resolve S STEM --stems [--workers=W] with S + STEM at most 255")
     else if bytes_eq (codes "dump") name then
     Some (codes "dump S T [--workers=W] [--save], or dump S STEM --stems [--workers=W] with S + STEM at most 255")
-    else if bytes_eq (codes "products") name then Some (codes "products S T --by=s,t,i [--by=s,t,i ..] [--workers=W] [--save]")
+    else if bytes_eq (codes "products") name then
+    Some (codes "products S T --by=s,t,i [--by=s,t,i ..] [--workers=W] [--save], or products S STEM --by=s,t,i [--by=s,t,i ..] --stems [--workers=W] with S + STEM at most 255")
     else if bytes_eq (codes "massey") name then Some (codes "massey S T --a=s,t,i --b=s,t,i --c=s,t,i [--workers=W] [--save]")
+    else if bytes_eq (codes "product") name then Some (codes "product --a=s,t,i --x=s,t,i [--workers=W]")
+    else if bytes_eq (codes "bracket") name then Some (codes "bracket --a=s,t,i --b=s,t,i --c=s,t,i [--workers=W]")
     else if bytes_eq (codes "check") name then Some (codes "check")
     else if bytes_eq (codes "build") name then Some (codes "build sum, build tensor, build dual or build shift --degrees=N")
     else if bytes_eq (codes "sample") name then
@@ -100,6 +103,8 @@ form_of name =
     else if bytes_eq (codes "sq") name then Some (codes "sq W")
     else if bytes_eq (codes "migrate") name then Some (codes "migrate")
     else if bytes_eq (codes "verify") name then Some (codes "verify S T")
+    else if bytes_eq (codes "table") name then
+    Some (codes "table S T [--by=s,t,i ..] [--workers=W], or table S STEM --stems [--by=s,t,i ..] [--workers=W] with S + STEM at most 255")
     else None
 
 -- words that have not the command's form
@@ -107,7 +112,7 @@ abbrev pub form_line : List ℕ → List ℕ
 form_line form = codes "ext: the form is " ++ (form ++ codes "\n")
 
 abbrev pub commands_text : List ℕ
-commands_text = codes "sphere, resolve, dump, products, massey, check, build, sample, sq, migrate and verify"
+commands_text = codes "sphere, resolve, dump, products, massey, product, bracket, check, build, sample, sq, migrate, verify and table"
 
 abbrev pub no_command_line : List ℕ
 no_command_line = codes "ext: no command; the commands are " ++ (commands_text ++ codes "\n")
@@ -171,6 +176,7 @@ bracket_line range a b c = option_or (sphere_line (codes "a") range a)
 abbrev pub class_line : Command → Option (List ℕ)
 class_line (Products common by) = products_line common.range by
 class_line (Massey common a b c) = bracket_line common.range a b c
+class_line (Table common by) = products_line common.range by
 class_line _ = None
 
 abbrev pub remark_on_classes : List (List ℕ) → Option (List ℕ)

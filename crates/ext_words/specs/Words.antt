@@ -13,7 +13,7 @@ use Rattle.ext_words.specs.declared.command.TheConstants.{MAX_WORKERS, MAX_SQUAR
 use Rattle.ext_words.specs.declared.command.Build.{Build}
 use Rattle.ext_words.specs.declared.command.Build.TheVariants as build
 use Rattle.ext_words.specs.declared.command.Command.{Command}
-use Rattle.ext_words.specs.declared.command.Command.TheVariants.{Sphere, Resolve, Dump, Products, Massey, Check, Build as Built, Sample, Sq, Migrate, Verify}
+use Rattle.ext_words.specs.declared.command.Command.TheVariants.{Sphere, Resolve, Dump, Products, Massey, Product, Bracket, Check, Build as Built, Sample, Sq, Migrate, Verify, Table}
 use Rattle.ext_words.specs.declared.command.Common.{Common}
 
 -- the bytes of the words
@@ -281,6 +281,26 @@ massey_of given =
     (class_given (codes "a") given))
     (common_of given)
 
+-- the classes that `--a` and `--x` are given, which both have to be there
+abbrev pub one_product_of : Given → Option Command
+one_product_of given =
+    option_and_then (λ workers.
+    option_and_then (λ a.
+    option_map (λ x. Product workers a x) (class_given (codes "x") given))
+    (class_given (codes "a") given))
+    (workers_of (text_given (codes "workers") given))
+
+-- the classes of a bracket, without a range
+abbrev pub bracket_of : Given → Option Command
+bracket_of given =
+    option_and_then (λ workers.
+    option_and_then (λ a.
+    option_and_then (λ b.
+    option_map (λ c. Bracket workers a b c) (class_given (codes "c") given))
+    (class_given (codes "b") given))
+    (class_given (codes "a") given))
+    (workers_of (text_given (codes "workers") given))
+
 -- what is built by the word OP, and by what `--degrees` is given: it stands with `shift`, and there alone
 abbrev pub built_by : List ℕ → Option (List ℕ) → Option Build
 built_by word None =
@@ -302,6 +322,12 @@ sample_of given = option_and_then (λ n. option_map (λ common. Sample n common)
 -- the product W
 abbrev pub product_given : Given → Option (List ℕ)
 product_given given = option_and_then product_of (text_given (codes "W") given)
+
+-- a table, with the classes that `--by` is given, of which there may be none
+abbrev pub table_of : Given → Option Command
+table_of given =
+    option_and_then (λ common. option_map (λ by. Table common by) (read_each class_of (unwrap_or (given (codes "by")) [])))
+    (common_of given)
 
 -- ---- commands
 
@@ -334,14 +360,18 @@ commands =
     resolving (codes "sphere") [] [] (codes "live" ∷ codes "stems" ∷ []) (λ given. option_map Sphere (common_of given))
     ∷ resolving (codes "resolve") [] [] (codes "live" ∷ codes "stems" ∷ []) (λ given. option_map Resolve (common_of given))
     ∷ resolving (codes "dump") [] [] (codes "stems" ∷ []) (λ given. option_map Dump (common_of given))
-    ∷ repeating (codes "by") (resolving (codes "products") [] (codes "by" ∷ []) [] products_of)
+    ∷ repeating (codes "by") (resolving (codes "products") [] (codes "by" ∷ []) (codes "stems" ∷ []) products_of)
     ∷ resolving (codes "massey") [] (codes "a" ∷ codes "b" ∷ codes "c" ∷ []) [] massey_of
+    ∷ grammar (codes "product") [] (codes "workers" ∷ codes "a" ∷ codes "x" ∷ []) [] one_product_of
+    ∷ grammar (codes "bracket") [] (codes "workers" ∷ codes "a" ∷ codes "b" ∷ codes "c" ∷ []) [] bracket_of
     ∷ grammar (codes "check") [] [] [] (λ given. Some Check)
     ∷ grammar (codes "build") (codes "OP" ∷ []) (codes "degrees" ∷ []) [] (λ given. option_map Built (build_of given))
     ∷ resolving (codes "sample") (codes "N" ∷ []) [] (codes "stems" ∷ []) sample_of
     ∷ grammar (codes "sq") (codes "W" ∷ []) [] [] (λ given. option_map Sq (product_given given))
     ∷ grammar (codes "migrate") [] [] [] (λ given. Some Migrate)
     ∷ grammar (codes "verify") (codes "S" ∷ codes "T" ∷ []) [] [] (λ given. option_map Verify (range_of Rectangle given))
+    ∷ repeating (codes "by")
+    (grammar (codes "table") (codes "S" ∷ codes "T" ∷ []) (codes "workers" ∷ codes "by" ∷ []) (codes "stems" ∷ []) table_of)
     ∷ []
 
 -- what words give to a command: each of its options is among them at most once, but for those that may be given more than once, and
@@ -385,6 +415,9 @@ abbrev pub IsAlone : Shape → Common → Type 0
 IsAlone Rectangle common = ⊤
 IsAlone Stems common = (common.save ≡ false) × (common.live ≡ false)
 
+abbrev pub AreWorkers : ℕ → Type 0
+AreWorkers n = (1 ≤ n) × (n ≤ MAX_WORKERS)
+
 abbrev pub IsWithin : Common → Type 0
 IsWithin common =
     IsRangeWithin common.range × (1 ≤ common.workers) × (common.workers ≤ MAX_WORKERS)
@@ -410,9 +443,12 @@ IsWithinLimits (Resolve common) = IsWithin common
 IsWithinLimits (Dump common) = IsWithin common
 IsWithinLimits (Products common by) = IsWithin common × All IsShort by
 IsWithinLimits (Massey common a b c) = IsWithin common × IsShort a × IsShort b × IsShort c
+IsWithinLimits (Product workers a x) = AreWorkers workers × IsShort a × IsShort x
+IsWithinLimits (Bracket workers a b c) = AreWorkers workers × IsShort a × IsShort b × IsShort c
 IsWithinLimits Check = ⊤
 IsWithinLimits (Built made) = IsWithinShift made
 IsWithinLimits (Sample n common) = IsWithin common
 IsWithinLimits (Sq numbers) = IsWithinDegree numbers
 IsWithinLimits Migrate = ⊤
 IsWithinLimits (Verify range) = IsRangeWithin range
+IsWithinLimits (Table common by) = IsWithin common × All IsShort by

@@ -24,8 +24,8 @@ pub const MAX_SHIFT: u16 = 256;
 #[derive(Clone, Copy, Debug, PartialEq, Eq)]
 pub struct Common {
     pub range: Range,
-    /// Which squares of the range are meant. With `--stems`, which `sphere`, `resolve`, `dump` and `sample` have, they are those of its
-    /// stems, and the range is neither kept in a save file nor told of while it is made.
+    /// Which squares of the range are meant. With `--stems`, which all but `massey` have, they are those of its stems, and the
+    /// range is neither kept in a save file nor told of while it is made.
     pub shape: Shape,
     /// How many workers make squares: from 1 to `MAX_WORKERS`, and 1 where the words do not say.
     pub workers: u32,
@@ -102,6 +102,20 @@ pub enum Command {
         b: Class,
         c: Class,
     },
+    /// `product --a C --x C`: the product of the class `a` of the sphere with the class `x` of the module on standard input, through the
+    /// least range that has its squares.
+    Product {
+        workers: u32,
+        a: Class,
+        x: Class,
+    },
+    /// `bracket --a C --b C --c C`: the bracket that `massey` tells, through the least range that has its squares.
+    Bracket {
+        workers: u32,
+        a: Class,
+        b: Class,
+        c: Class,
+    },
     /// `check`: a line on the module on standard input.
     Check,
     /// `build OP`: the file of the module that is built from those on standard input.
@@ -117,6 +131,12 @@ pub enum Command {
     Migrate,
     /// `verify S T`: the chart of the module on standard input, if its save file is a certificate of that chart.
     Verify(Range),
+    /// `table S T --by C ..`: the squares of the module on standard input that have classes, and the products of these with the classes
+    /// `by` of the sphere, of which there may be none.
+    Table {
+        common: Common,
+        by: Classes,
+    },
 }
 
 /// Why words gave no command.

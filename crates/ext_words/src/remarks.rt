@@ -46,11 +46,11 @@ fn shown(word: &str) -> &str
 
 /// The names of the commands.
 const COMMANDS: &str =
-    "sphere, resolve, dump, products, massey, check, build, sample, sq, migrate and verify";
+    "sphere, resolve, dump, products, massey, product, bracket, check, build, sample, sq, migrate, verify and table";
 
 /// The names of words and of options, in the order in which they are looked at.
-const VALUE_NAMES: [&str; 11] = [
-    "N", "S", "T", "W", "OP", "workers", "degrees", "by", "a", "b", "c",
+const VALUE_NAMES: [&str; 12] = [
+    "N", "S", "T", "W", "OP", "workers", "degrees", "by", "a", "b", "c", "x",
 ];
 
 /// Whether a word or an option of this name may be this text.
@@ -148,8 +148,12 @@ fn form_of(name: &str) -> Option<&'static str>
         "dump" => Some(
             "dump S T [--workers=W] [--save], or dump S STEM --stems [--workers=W] with S + STEM at most 255",
         ),
-        "products" => Some("products S T --by=s,t,i [--by=s,t,i ..] [--workers=W] [--save]"),
+        "products" => Some(
+            "products S T --by=s,t,i [--by=s,t,i ..] [--workers=W] [--save], or products S STEM --by=s,t,i [--by=s,t,i ..] --stems [--workers=W] with S + STEM at most 255",
+        ),
         "massey" => Some("massey S T --a=s,t,i --b=s,t,i --c=s,t,i [--workers=W] [--save]"),
+        "product" => Some("product --a=s,t,i --x=s,t,i [--workers=W]"),
+        "bracket" => Some("bracket --a=s,t,i --b=s,t,i --c=s,t,i [--workers=W]"),
         "check" => Some("check"),
         "build" => Some("build sum, build tensor, build dual or build shift --degrees=N"),
         "sample" => Some(
@@ -158,6 +162,9 @@ fn form_of(name: &str) -> Option<&'static str>
         "sq" => Some("sq W"),
         "migrate" => Some("migrate"),
         "verify" => Some("verify S T"),
+        "table" => Some(
+            "table S T [--by=s,t,i ..] [--workers=W], or table S STEM --stems [--by=s,t,i ..] [--workers=W] with S + STEM at most 255",
+        ),
         _ => None,
     }
 }
@@ -354,6 +361,7 @@ fn class_line(alloc: Global, command: &Command) -> Result<Option<Vec<u8>>, Memor
     match command {
         Command::Products { common, by } => products_line(alloc, common.range, by.as_slice()),
         Command::Massey { common, a, b, c } => bracket_line(alloc, common.range, *a, *b, *c),
+        Command::Table { common, by } => products_line(alloc, common.range, by.as_slice()),
         _ => Ok(None),
     }
 }

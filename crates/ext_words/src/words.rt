@@ -5,9 +5,8 @@ ghost use Rattle.std.specs.List.{All, list_any};
 ghost use Rattle.std.specs.Str.{bytes_eq};
 ghost use Rattle.clap.specs.declared.builder.command.Command.TheViews.{out-Command};
 ghost use Rattle.ext_words.specs.Inside.CommandLine.{is_stray, option_named, flag_named, command_with, no_command, command_line, given_in, given_below, command_named, command_in};
-ghost use Rattle.ext_words.specs.declared.command.TheConstants.{MAX_WORKERS};
 ghost use Rattle.ext_words.specs.declared.command.WordsFault as WordsFault;
-ghost use Rattle.ext_words.specs.Words.{texts_of, has_live, text_given, is_given, number_given, workers_of, shape_of, range_through, range_of, common_of, class_given, classes_given, products_of, massey_of, built_by, build_of, seed_of, sample_of, product_given, given_of, command_of, IsRangeWithin, IsRangeOf, IsWithin, IsShort, IsWithinShift, IsWithinDegree, IsWithinLimits};
+ghost use Rattle.ext_words.specs.Words.{texts_of, has_live, text_given, is_given, number_given, workers_of, shape_of, range_through, range_of, common_of, class_given, classes_given, products_of, massey_of, one_product_of, bracket_of, built_by, build_of, seed_of, sample_of, product_given, table_of, given_of, command_of, IsRangeWithin, IsRangeOf, IsWithin, IsShort, AreWorkers, IsWithinShift, IsWithinDegree, IsWithinLimits};
 
 use crate::command::{Build, Classes, Command, Common, MAX_WORKERS, WordsFault};
 use crate::numbers::{
@@ -125,7 +124,7 @@ fn command_line<'a>(alloc: Global) -> Result<clap::Command<'a>, AllocError>
             &["S", "T"],
             &["workers", "by"],
             &["by"],
-            &["save"],
+            &["save", "stems"],
         )?)?
         .subcommand(command_with(
             alloc,
@@ -135,6 +134,8 @@ fn command_line<'a>(alloc: Global) -> Result<clap::Command<'a>, AllocError>
             &[],
             &["save"],
         )?)?
+        .subcommand(command_with(alloc, "product", &[], &["workers", "a", "x"], &[], &[])?)?
+        .subcommand(command_with(alloc, "bracket", &[], &["workers", "a", "b", "c"], &[], &[])?)?
         .subcommand(command_with(alloc, "check", &[], &[], &[], &[])?)?
         .subcommand(command_with(alloc, "build", &["OP"], &["degrees"], &[], &[])?)?
         .subcommand(command_with(
@@ -147,7 +148,15 @@ fn command_line<'a>(alloc: Global) -> Result<clap::Command<'a>, AllocError>
         )?)?
         .subcommand(command_with(alloc, "sq", &["W"], &[], &[], &[])?)?
         .subcommand(command_with(alloc, "migrate", &[], &[], &[], &[])?)?
-        .subcommand(command_with(alloc, "verify", &["S", "T"], &[], &[], &[])?)
+        .subcommand(command_with(alloc, "verify", &["S", "T"], &[], &[], &[])?)?
+        .subcommand(command_with(
+            alloc,
+            "table",
+            &["S", "T"],
+            &["workers", "by"],
+            &["by"],
+            &["stems"],
+        )?)
 }
 
 /// The matches of the words, none where `clap` refuses them.
@@ -189,7 +198,7 @@ fn number_in(matches: &ArgMatches, id: &str, limit: u16) -> Option<u16>
 /// The number of workers of a command's matches, 1 where the option is not given.
 fn workers_in(matches: &ArgMatches) -> Option<u32>
     ensures workers { result ≡ workers_of (text_given (codes "workers") (given_in matches.now)) }
-    ensures within { IfSome result (λ n. (1 ≤ n) × (n ≤ MAX_WORKERS)) }
+    ensures within { IfSome result AreWorkers }
 {
     match word_in(matches, "workers") {
         Some(word) => Some(u32::from(positive_up_to(MAX_WORKERS, word)?)),
@@ -320,6 +329,43 @@ fn massey_in(alloc: Global, matches: &ArgMatches) -> Result<Option<Command>, Mem
     Ok(Some(Command::Massey { common, a, b, c }))
 }
 
+/// The command of one product that a command's matches ask for.
+fn one_product_in(alloc: Global, matches: &ArgMatches) -> Result<Option<Command>, Memory>
+    ensures command { IfOk result (λ command. command ≡ one_product_of (given_in matches.now)) }
+    ensures within { IfOk result (λ command. IfSome command IsWithinLimits) }
+{
+    let Some(workers) = workers_in(matches) else {
+        return Ok(None);
+    };
+    let Some(a) = class_in(alloc, matches, "a")? else {
+        return Ok(None);
+    };
+    let Some(x) = class_in(alloc, matches, "x")? else {
+        return Ok(None);
+    };
+    Ok(Some(Command::Product { workers, a, x }))
+}
+
+/// The command of a bracket without a range that a command's matches ask for.
+fn bracket_in(alloc: Global, matches: &ArgMatches) -> Result<Option<Command>, Memory>
+    ensures command { IfOk result (λ command. command ≡ bracket_of (given_in matches.now)) }
+    ensures within { IfOk result (λ command. IfSome command IsWithinLimits) }
+{
+    let Some(workers) = workers_in(matches) else {
+        return Ok(None);
+    };
+    let Some(a) = class_in(alloc, matches, "a")? else {
+        return Ok(None);
+    };
+    let Some(b) = class_in(alloc, matches, "b")? else {
+        return Ok(None);
+    };
+    let Some(c) = class_in(alloc, matches, "c")? else {
+        return Ok(None);
+    };
+    Ok(Some(Command::Bracket { workers, a, b, c }))
+}
+
 /// What is built by the word OP and by the value of `--degrees`, which stands with `shift`, and there alone.
 fn built_by(word: &str, degrees: Option<&str>) -> Option<Build>
     ensures build { result ≡ built_by word.now (option_map (λ text. text.now) degrees.entry) }
@@ -373,6 +419,20 @@ fn product_in(alloc: Global, matches: &ArgMatches) -> Result<Option<Mono>, Memor
     }
 }
 
+/// The table that a command's matches ask for.
+fn table_in(alloc: Global, matches: &ArgMatches) -> Result<Option<Command>, Memory>
+    ensures command { IfOk result (λ command. command ≡ table_of (given_in matches.now)) }
+    ensures within { IfOk result (λ command. IfSome command IsWithinLimits) }
+{
+    let Some(common) = common_in(matches) else {
+        return Ok(None);
+    };
+    let Some(by) = classes_of(alloc, words_in(matches, "by"))? else {
+        return Ok(None);
+    };
+    Ok(Some(Command::Table { common, by }))
+}
+
 /// The command that has this name, with its matches.
 fn command_named(alloc: Global, name: &str, matches: &ArgMatches) -> Result<Option<Command>, Memory>
     ensures command { IfOk result (λ command. command ≡ command_named name.now (rows_of (found_of matches.now))) }
@@ -384,12 +444,15 @@ fn command_named(alloc: Global, name: &str, matches: &ArgMatches) -> Result<Opti
         "dump" => Ok(common_in(matches).map(Command::Dump)),
         "products" => products_in(alloc, matches),
         "massey" => massey_in(alloc, matches),
+        "product" => one_product_in(alloc, matches),
+        "bracket" => bracket_in(alloc, matches),
         "check" => Ok(Some(Command::Check)),
         "build" => Ok(build_in(matches).map(Command::Build)),
         "sample" => Ok(sample_in(matches)),
         "sq" => Ok(product_in(alloc, matches)?.map(Command::Sq)),
         "migrate" => Ok(Some(Command::Migrate)),
         "verify" => Ok(range_in(Shape::Rectangle, matches).map(Command::Verify)),
+        "table" => table_in(alloc, matches),
         _ => Ok(None),
     }
 }

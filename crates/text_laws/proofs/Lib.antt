@@ -1,5 +1,6 @@
 mod Filters
 mod Products
+mod Shapes
 mod Cosets
 mod Places
 mod Texts

@@ -1,11 +1,9 @@
 -- What is had where a bracket is told as a text: the classes are there, the squares are in the range, and the two products are zero.
-use Rattle.std.proofs.Common.{◌≡◌, inl, inr, ℕ, suc, ◌+◌, ◌-◌, ◌<◌, ◌≤◌, ℤ, pos, ◌+ℤ◌, ◌-ℤ◌, ◌≤ℤ◌, Bool, true, false, List, refl, sym, subst, ◌∙◌, arith}
-use Rattle.std.specs.Prelude.{Option, Some, None, MatchOption, Result, Ok, Err, option_map, nat_lt, int_lt, if◌then◌else◌}
+use Rattle.std.proofs.Common.{◌≡◌, inl, inr, ℕ, suc, ◌+◌, ◌-◌, ◌<◌, ◌≤◌, pos, ◌+ℤ◌, ◌-ℤ◌, Bool, List, refl, sym, subst, ◌∙◌, arith}
+use Rattle.std.specs.Prelude.{Option, Some, None, MatchOption, Result, Ok, Err}
 use Rattle.std.specs.Option.{option_or}
-use Rattle.std.proofs.lemmas.Bool.{true≢false, or_parts}
-use Rattle.std.proofs.lemmas.Bool.Decides.{nat_tests}
-use Rattle.std.proofs.lemmas.Int.{ints, by_lt_z}
-use Rattle.bidegree.specs.Above.{above_of}
+use Rattle.std.proofs.lemmas.Bool.{true≢false}
+use Rattle.std.proofs.lemmas.Int.{ints}
 use Rattle.bidegree.specs.declared.range.Range.{Range}
 use Rattle.bidegree.specs.declared.class.Class.{Class}
 use Rattle.f2_vec.specs.Vectors.{IsZero}
@@ -14,43 +12,22 @@ use Rattle.module_json.proofs.Basis.{option_or-none}
 use Rattle.lift_laws.specs.Lifts.{Resolution}
 use Rattle.lift_laws.specs.Products.{Class as ClassAbove, count_of}
 use Rattle.bracket_laws.specs.Brackets.{HasRoom, UnitsHaveNoZeroProducts}
-use Rattle.chain_map.specs.Classes.{class_count, passes, no_class, out_of_range, class_refusal, range_refusal, IsAt}
+use Rattle.chain_map.specs.Classes.{no_class, out_of_range, class_refusal, range_refusal, IsAt}
 use Rattle.chain_map.proofs.Classes.{class_is_once}
 use Rattle.yoneda.specs.Products.{IsYonedaProduct}
 use Rattle.ext_products.specs.declared.refusal.Pair.{Pair}
 use Rattle.ext_products.specs.declared.refusal.Pair.TheVariants.{Ab, Bc}
 use Rattle.ext_products.specs.declared.refusal.Refusal.{Refusal}
-use Rattle.ext_products.proofs.Answers.{found}
+use Rattle.ext_products.proofs.Near.{class_there, square_near}
 use Rattle.ext_brackets.specs.Brackets.{absent, past, refusal_of, IsBracketText, IsToldOf, IsTold, IsBracketAnswer}
 use Rattle.text_laws.specs.Texts.{AreResolved}
 
 -- ---- no refusal
 
-not_missing : (found : Bool) (n : ℕ) (f : ℕ → Refusal) → option_map f (if found then None else Some n) ≡ None → found ≡ true
-not_missing true n f e = refl
-not_missing false n f e = absurd cc
-
-class_there : (say : ℕ → Refusal) (c : Class) (r : Resolution) (x : ClassAbove) → IsAt r c x → no_class say r c ≡ None → x.i < count_of r x.s x.above
-class_there say c r x at none =
-    let test = not_missing (nat_lt c.i (class_count r c.s c.t)) (class_count r c.s c.t) say none in
-    let f = found r c (above_of r.base.bottom c.t) refl (grind (arith, nat_tests, test)) in
+there_at : (say : ℕ → Refusal) (c : Class) (r : Resolution) (x : ClassAbove) → IsAt r c x → no_class say r c ≡ None → x.i < count_of r x.s x.above
+there_at say c r x at none =
+    let f = class_there say c r none in
     subst (λ (y : ClassAbove). y.i < count_of r y.s y.above) (class_is_once r c f.class x f.at at) f.there
-
-not_past : (far : Bool) (e : Refusal) → (if far then Some e else None) ≡ None → far ≡ false
-not_past false e h = refl
-not_past true e h = absurd cc
-
-int_lt-not : (x y : ℤ) → int_lt x y ≡ false → y ≤ℤ x
-int_lt-not x y e = by_lt_z x y (λ l. let t : int_lt x y ≡ true = grind (arith, ints) in absurd (true≢false (sym t ∙ e))) (λ h. h)
-
-record IsNear (r : Resolution) (range : Range) (s t : ℤ) : Type 0 where
-  row : s ≤ℤ pos range.s
-  degree : t ≤ℤ (r.base.bottom +ℤ pos range.t)
-
-square_near : (say : ℤ → ℤ → Refusal) (range : Range) (r : Resolution) (s t : ℤ) → out_of_range say range r s t ≡ None → IsNear r range s t
-square_near say range r s t none =
-    let near = or_parts (int_lt (pos range.s) s) (int_lt (r.base.bottom +ℤ pos range.t) t) (not_past (passes range r s t) (say s t) none) in
-    record { row = int_lt-not (pos range.s) s near.0; degree = int_lt-not (r.base.bottom +ℤ pos range.t) t near.1 }
 
 -- ---- a text
 
@@ -147,9 +124,9 @@ module _ (units : UnitsHaveNoZeroProducts) (range : Range) (a b c : Class) (r q 
       let bd = p.b_at.degree in
       let cd = p.c_at.degree in
       record {
-        x_there = class_there (say 0) a q x p.a_at first.0;
-        y_there = class_there (say 1) b q y p.b_at second.0;
-        z_there = class_there (say 2) c r z p.c_at second.1;
+        x_there = there_at (say 0) a q x p.a_at first.0;
+        y_there = there_at (say 1) b q y p.b_at second.0;
+        z_there = there_at (say 2) c r z p.c_at second.1;
         xy_row = let h = near_ab.row in omega (arith, ints);
         xy_degree = let h = near_ab.degree in omega (arith, ints);
         yz_row = let h = near_bc.row in omega (arith, ints);

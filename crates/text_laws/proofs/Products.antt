@@ -7,6 +7,7 @@ use Rattle.std.proofs.lemmas.Bool.Decides.{nat_tests}
 use Rattle.std.proofs.lemmas.Int.{ints, by_lt_z}
 use Rattle.bidegree.specs.Above.{above_of}
 use Rattle.bidegree.specs.declared.range.Range.{Range}
+use Rattle.bidegree.specs.declared.shape.Shape.TheVariants.{Rectangle}
 use Rattle.bidegree.specs.declared.class.Class.{Class}
 use Rattle.f2_vec.specs.Spans.{unit_vector}
 use Rattle.f2_vec.proofs.Split.{length-unit_vector}
@@ -27,25 +28,25 @@ use Rattle.ext_products.specs.Products.{OneEach, class_at, classes_of, classes_i
 use Rattle.ext_products.proofs.Factors.{IsFactor, are_factors}
 use Rattle.ext_products.proofs.Answers.{found, within-range}
 use Rattle.ext_products.proofs.Several.{answer-of-one}
-use Rattle.text_laws.specs.Texts.{AreResolved, is_in, HasLinesIn, ProductsOfSmallerRange}
+use Rattle.text_laws.specs.Texts.{AreResolved, is_in, HasLinesOf, ProductsOfSmallerRange}
 use Rattle.text_laws.proofs.Filters.{filter-map_same, filter-first, OneEach-filter, OneEach-same}
 
 -- ---- a text is told of a class that is there
 
 -- the class of a text, and that it is there
 record IsTextOf (range : Range) (by : Class) (r q : Resolution) (text : List ℕ) : Type 0 where
-  told : IsProductsText range by r q text
+  told : IsProductsText Rectangle range by r q text
   there : told.a.i < count_of q told.a.s told.a.above
 
-by_missing : (range : Range) (by : Class) (r q : Resolution) (text : List ℕ) (there : Bool) (count : ℕ) → nat_lt by.i (class_count q by.s by.t) ≡ there → MatchOption (if there then None else Some count) (IsOkAnd {E = Refusal} (Ok text) (IsProductsText range by r q)) (λ n. ◌≡◌ {A = Result (List ℕ) Refusal} (Ok text) (Err (NoClass By by n))) → IsTextOf range by r q text
+by_missing : (range : Range) (by : Class) (r q : Resolution) (text : List ℕ) (there : Bool) (count : ℕ) → nat_lt by.i (class_count q by.s by.t) ≡ there → MatchOption (if there then None else Some count) (IsOkAnd {E = Refusal} (Ok text) (IsProductsText Rectangle range by r q)) (λ n. ◌≡◌ {A = Result (List ℕ) Refusal} (Ok text) (Err (NoClass By by n))) → IsTextOf range by r q text
 by_missing range by r q text true count e told =
     let f = found q by (above_of q.base.bottom by.t) refl (grind (arith, nat_tests, e)) in
     let same : told.a ≡ f.class = class_is_once q by told.a f.class told.at f.at in
     record { told = told; there = subst (λ (c : ClassAbove). c.i < count_of q c.s c.above) (sym same) f.there }
 by_missing range by r q text false count e told = absurd cc
 
-text_of : (range : Range) (by : Class) (r q : Resolution) (text : List ℕ) → IsProductsAnswer range (by ∷ []) r q (Ok text) → IsTextOf range by r q text
-text_of range by r q text answer = by_missing range by r q text (nat_lt by.i (class_count q by.s by.t)) (class_count q by.s by.t) refl ((answer-of-one range by r q (Ok text)).0 answer)
+text_of : (range : Range) (by : Class) (r q : Resolution) (text : List ℕ) → IsProductsAnswer Rectangle range (by ∷ []) r q (Ok text) → IsTextOf range by r q text
+text_of range by r q text answer = by_missing range by r q text (nat_lt by.i (class_count q by.s by.t)) (class_count q by.s by.t) refl ((answer-of-one Rectangle range by r q (Ok text)).0 answer)
 
 -- ---- which classes are left
 
@@ -53,7 +54,7 @@ text_of range by r q text answer = by_missing range by r q text (nat_lt by.i (cl
 abbrev keeps : Range → ClassAbove → ClassAbove → Bool
 keeps range a x = nat_lt (x.s + a.s) (range.s + 1) && nat_lt (a.above + x.above) (range.t + 1)
 
-int_lt-moved : (b : ℤ) (k n : ℕ) → int_lt (b +ℤ pos k) (b +ℤ pos n) ≡ nat_lt k n
+pub int_lt-moved : (b : ℤ) (k n : ℕ) → int_lt (b +ℤ pos k) (b +ℤ pos n) ≡ nat_lt k n
 int_lt-moved b k n = elim (cases_lt k n) [
   | inl l ↦
       let below : nat_lt k n ≡ true = grind (arith, nat_tests, l) in
@@ -108,7 +109,7 @@ module _ (r less : Resolution) (range more : Range) (a : ClassAbove) (row : a.s 
       filter-first (keeps range a) (classes_of r s) (classes_of less s) 0 0 (more.t + 1 - a.above) (λ k b. absurd (omega arith))
       (λ k b. square_left false s k (late s k (omega arith))) (more.t + 1 - a.above) (omega arith)
 
-  factors_left : filter (keeps range a) (factors r more a) ≡ factors less range a
+  factors_left : filter (keeps range a) (factors r Rectangle more a) ≡ factors less Rectangle range a
   factors_left =
       filter-first (keeps range a) (classes_in_row r (more.t + 1 - a.above)) (classes_in_row less N) 0 M (more.s - range.s) row_left row_gone (more.s + 1 - a.s) (omega arith)
 
@@ -135,7 +136,7 @@ module _ (squares : SquaresAreSameInEachRange) (products : ProductsAreSameInEach
   counts_q : (s k : ℕ) → s ≤ range.s → k ≤ range.t → count_of q_more s k ≡ count_of q s k
   counts_q s k h l = ap (λ (c : Content). length c.images) (squares w more.s more.t range.s range.t other_sphere sphere there.canonical_q.canonical here.canonical_q.canonical s k (omega arith) (omega arith) h l)
 
-  module _ (a : ClassAbove) (a_row : a.s ≤ range.s) (a_degree : a.above ≤ range.t) (a_there : a.i < count_of q a.s a.above) (x : ClassAbove) (factor : IsFactor r range a x) where
+  module _ (a : ClassAbove) (a_row : a.s ≤ range.s) (a_degree : a.above ≤ range.t) (a_there : a.i < count_of q a.s a.above) (x : ClassAbove) (factor : IsFactor r Rectangle range a x) where
     x_row : x.s ≤ range.s
     x_row = let e = factor.row in omega arith
 
@@ -205,16 +206,16 @@ module _ (squares : SquaresAreSameInEachRange) (products : ProductsAreSameInEach
     a_same : k.told.a ≡ p.told.a
     a_same = class_is_once q by k.told.a p.told.a (record { row = k.told.at.row; degree = k.told.at.degree; number = k.told.at.number }) p.told.at
 
-    lines_in : HasLinesIn range m.bottom all text
+    lines_in : HasLinesOf (is_in range m.bottom) all text
     lines_in =
         let a = p.told.a in
         let within = within-range q range a here.canonical_q.canonical p.there in
         let lines = k.told.lines in
-        let are : OneEach (IsProductLine r_more q_more a) (factors r_more more a) lines = subst (λ (c : ClassAbove). OneEach (IsProductLine r_more q_more c) (factors r_more more c) lines) a_same k.told.are_lines in
-        let left = OneEach-filter (IsProductLine r_more q_more a) (keeps range a) (is_in range m.bottom) (line-kept range r_more q_more a) (factors r_more more a) lines are in
-        let left_here : OneEach (IsProductLine r_more q_more a) (factors r range a) (filter (is_in range m.bottom) lines) =
+        let are : OneEach (IsProductLine r_more q_more a) (factors r_more Rectangle more a) lines = subst (λ (c : ClassAbove). OneEach (IsProductLine r_more q_more c) (factors r_more Rectangle more c) lines) a_same k.told.are_lines in
+        let left = OneEach-filter (IsProductLine r_more q_more a) (keeps range a) (is_in range m.bottom) (line-kept range r_more q_more a) (factors r_more Rectangle more a) lines are in
+        let left_here : OneEach (IsProductLine r_more q_more a) (factors r Rectangle range a) (filter (is_in range m.bottom) lines) =
         subst (λ (xs : List ClassAbove). OneEach (IsProductLine r_more q_more a) xs (filter (is_in range m.bottom) lines)) (factors_left r_more r range more a within.row within.degree rows degrees counts) left in
-        let same = OneEach-same (IsFactor r range a) (IsProductLine r q a) (IsProductLine r_more q_more a) (λ x y z f. line_same a within.row within.degree p.there x f y z) (factors r range a) p.told.lines (filter (is_in range m.bottom) lines) (are_factors r range a within.row within.degree) p.told.are_lines left_here in
+        let same = OneEach-same (IsFactor r Rectangle range a) (IsProductLine r q a) (IsProductLine r_more q_more a) (λ x y z f. line_same a within.row within.degree p.there x f y z) (factors r Rectangle range a) p.told.lines (filter (is_in range m.bottom) lines) (are_factors r Rectangle range a) p.told.are_lines left_here in
         record { lines = lines; all_are = k.told.is; text_is = p.told.is ∙ ap product_lines_text same }
 
 pub smaller_range : SquaresAreSameInEachRange → ProductsAreSameInEachRange → ProductsOfClassesAreOfElements → ProductsOfSmallerRange

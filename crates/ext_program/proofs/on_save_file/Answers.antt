@@ -1,4 +1,4 @@
-use Rattle.std.proofs.Common.{ℕ, List, map, sym, subst}
+use Rattle.std.proofs.Common.{ℕ, true, List, map, sym, subst}
 use Rattle.std.specs.Prelude.{string_bytes, Option, Result, Ok, Err, IfOk}
 use Rattle.std.proofs.lemmas.Result.{IfOk-weaker}
 use Rattle.path_file.specs.declared.fault.Fault.{Fault}
@@ -20,7 +20,7 @@ returns-clause-answered g c =
     let same = sym end.ensures.status in
     let P : ℕ → Option Fault → Type 0 = λ n fault. HasToldFault g.E.Sink.written g.E.Sink.faults n fault ran.new.err end.new.err in
     let told = subst (λ n. P n (g.D.KnowsFault.fault ran.result.disk)) same (subst (P ran.result.status) c.fault-fault.ensures end.ensures.told) in
-    let Q : List (List ℕ) → ℕ → Type 0 = λ words n. IsRun (device_of g.S.Source.left g.S.Source.faults) (device_of g.O.Sink.written g.O.Sink.faults) (device_of g.E.Sink.written g.E.Sink.faults) (store_of g.D.Disk.now g.D.Disk.moment g.D.Disk.images g.D.Disk.images_at g.D.Disk.since g.D.Disk.faults) (asked_by words) n
+    let Q : List (List ℕ) → ℕ → Type 0 = λ words n. IsRun (device_of g.S.Source.left g.S.Source.faults) (device_of g.O.Sink.written g.O.Sink.faults) (device_of g.E.Sink.written g.E.Sink.faults) (store_of g.D.Disk.now g.D.Disk.moment g.D.Disk.images g.D.Disk.images_at g.D.Disk.since g.D.Disk.faults) (asked_by words) true n
     c.args.source.now ran.new.source c.args.out.now ran.new.out c.args.err.now ran.new.err c.args.disk ran.result.disk in
     let R : List (List ℕ) → ℕ → Type 0 = λ words n. HasRemarked g.E.Sink.written g.E.Sink.faults n words end.new.err c.commented.new.err in
     IfOk-weaker c.args.arguments _ _

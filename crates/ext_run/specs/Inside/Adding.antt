@@ -1,17 +1,19 @@
 -- How the quasi-inverses that a save file lacks are put behind its squares.
-use Rattle.std.specs.Prelude.{◌≡◌, ◌≢◌, ℕ, ◌≤◌, ◌<◌, List, [], length, IsSome, IfSome, Result, Err, OnOk}
+use Rattle.std.specs.Prelude.{◌≡◌, ◌≢◌, ◌⊎◌, ℕ, ◌≤◌, ◌<◌, ℤ, List, [], length, IsSome, IfSome, Result, Err, OnOk}
 use Rattle.std.specs.Option.{option_map}
 use Rattle.std.specs.List.{All, AllPairs}
 use Rattle.edge.specs.Disk.{LeavesOnly, HavePast}
 use Rattle.edge.specs.Faults.{HasRisen}
+use Rattle.f2_matrix.specs.Reduction.{Reduction}
 use Rattle.resolution_laws.specs.Start.{IsCanonicalStart}
 use Rattle.square.specs.declared.keep.KeepFault.{KeepFault}
 use Rattle.square.specs.declared.keep.KeepFault.TheVariants.{Failed, Memory}
-use Rattle.square.specs.Squares.{over}
-use Rattle.square.specs.Tables.{Staircase, row_in, plain_rows, AllRead, IsTable}
+use Rattle.square.specs.Squares.{Placed, over}
+use Rattle.square.specs.Tables.{Staircase, row_in, plain_rows, AllRead, IsTable, IsQuasiAt}
 use Rattle.square.specs.Keeping.{IsKeeperOf}
 use Rattle.save_journal.specs.Journals.{ComeFromEarlier}
 use Rattle.save_file.specs.Bodies.{Kept}
+use Rattle.save_file.specs.Exactness.{IsInexactAt}
 use Rattle.save_file.specs.Saved.{kept_of_table, quasi_kept}
 use Rattle.save_file.specs.Saving.{SaveState, TakesSquares, kept_in, quasis_in, telling_of}
 use Rattle.ext_run.specs.Devices.{Store}
@@ -25,6 +27,12 @@ pub record IsFileOf {D : Type 0} (disk : Store D) (table : Staircase) (k : SaveS
   pub quasis : IfSome (quasis_in disk.now k) (λ kept. kept ≡ kept_of_table table)
   pub is_table : IsTable table
   pub all_read : AllRead table.rows
+
+-- The square is left out: it has its quasi-inverse, or its kernel rows are not those of the quasi-inverse, or d_s is not exact there,
+-- by the kernel rows of the table.
+abbrev pub IsLeftOut : Staircase → ℕ → ℤ → Placed → Type 0
+IsLeftOut table s t q = IsSome q.quasi ⊎ ((r : Reduction) × IsQuasiAt table s t r × (r.kernel ≢ q.content.kernel))
+    ⊎ IsInexactAt table s t
 
 -- where the disk tells, each image since old has P of what was kept then
 abbrev pub LeavesOf : {D : Type 0} → Store D → SaveState D → SaveState D → (List Kept → List ℕ → Type 0) → Type 0

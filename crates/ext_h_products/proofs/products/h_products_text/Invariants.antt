@@ -8,4 +8,4 @@ use Rattle.ext_h_products.proofs.products.h_products_text.Given as goal
 
 abbrev pub invariant-loop-class : goal.invariant-loop-class
 invariant-loop-class l =
-    AreHeaded (λ by text. IsAnswerOverImages (IsAnswerOfOne l.range by) l.images l.range (Ok text)) (nat_lt 1 (length l.by)) (take l.class-index l.by) l.text.items
+    AreHeaded (λ by text. IsAnswerOverImages (IsAnswerOfOne l.shape l.range by) l.images l.range (Ok text)) (nat_lt 1 (length l.by)) (take l.class-index l.by) l.text.items

@@ -1,23 +1,28 @@
-use Rattle.std.proofs.Common.{◌≡◌, ◌∙◌, ◌^◌, ap, sym, subst, ℕ, pos, arith}
-use Rattle.std.specs.Prelude.{Ok}
-use Rattle.std.proofs.lemmas.Int.{ints}
-use Rattle.bidegree.specs.declared.class.Class.{Class}
+use Rattle.std.proofs.Common.{◌≡◌, ◌∙◌, ℕ, List, ap, sym, subst}
+use Rattle.std.specs.Prelude.{Option, MatchOption, Result, Ok, Err, IsOkAnd}
 use Rattle.std.proofs.lemmas.Result.{IfOk-weaker}
-use Rattle.h_products.specs.ReadOff.{resolution_in}
 use Rattle.ext_chart.specs.Classes.{product_lines_text}
-use Rattle.ext_products.specs.Products.{OneEach, factors, IsAnswerOfOne}
-use Rattle.ext_h_products.specs.RowOne.{in_row_one, IsLineReadOff, IsAnswerOverImages}
-use Rattle.ext_h_products.proofs.Told.{answer}
+use Rattle.ext_products.specs.declared.refusal.Refusal.{Refusal}
+use Rattle.ext_products.specs.declared.refusal.Refusal.TheVariants.{NoClass}
+use Rattle.ext_products.specs.declared.refusal.Named.TheVariants.{By}
+use Rattle.ext_products.specs.Products.{resolution, IsProductsText}
+use Rattle.ext_h_products.proofs.Counts.{h_there}
 use Rattle.ext_h_products.proofs.products.text_of_one.Goals as goal
 
 pub returns : goal.returns
 returns c =
-    let images = c.args.images.now in
-    let is = c.requires.there in
-    let v = is.exponent in
-    let degree : c.args.by.t ≡ pos (2 ^ v) = sym (ap (λ (class : Class). class.t) is.is) in
-    let each = subst (λ (n : ℕ). OneEach (IsLineReadOff (resolution_in images) n) (factors (resolution_in images) c.args.range (in_row_one n)) c.in_ok-lines.lines.items) (omega (arith, ints, degree, is.degree)) c.in_ok-lines.ensures in
     IfOk-weaker c.product_lines.result _ _
-    (λ text e. subst (λ (class : Class). IsAnswerOverImages (IsAnswerOfOne c.args.range class) images c.args.range (Ok text.items)) is.is
-    (answer c.each_class_lifts.ensures c.row_one_has_squares.ensures c.classes_with_h_are_read_off_images.ensures images c.args.range v is.row is.degree c.in_ok-lines.lines.items each text.items (e ∙ ap product_lines_text c.as_slice.ensures.value)))
+    (λ text e are table q canonical canonical_q sphere.
+    let answer : Result (List ℕ) Refusal = Ok text.items in
+    let r = resolution c.args.images.now.resolved.plain table in
+    let made = c.in_ok-lines.ensures are table q canonical canonical_q sphere in
+    subst (λ (o : Option ℕ). MatchOption o (IsOkAnd answer (IsProductsText c.args.shape c.args.range c.args.by r q)) (λ n. answer ≡ Err (NoClass By c.args.by n)))
+    (sym (h_there c.row_one_has_squares.ensures c.args.range c.args.by c.requires.there q canonical_q sphere))
+    (record {
+      a = made.a;
+      at = made.at;
+      lines = c.in_ok-lines.lines.items;
+      are_lines = made.are_lines;
+      is = e ∙ ap product_lines_text c.as_slice.ensures.value;
+    }))
     c.product_lines.ensures

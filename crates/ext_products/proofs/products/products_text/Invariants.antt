@@ -13,5 +13,5 @@ abbrev pub invariant-loop-class : goal.invariant-loop-class
 invariant-loop-class l = record {
   there : (sphere : List (List Content)) → IsCanonicalTable (module_over (derived_module sphere_file)) l.range.s l.range.t sphere →
       first_missing (resolution (derived_module sphere_file) sphere) l.by ≡ first_missing (resolution (derived_module sphere_file) sphere) (drop l.class-index l.by);
-  texts : AreHeaded (λ by text. IsAnswerOver (IsAnswerOfOne l.range by) l.table l.range (Ok text)) (nat_lt 1 (length l.by)) (take l.class-index l.by) l.text.items;
+  texts : AreHeaded (λ by text. IsAnswerOver (IsAnswerOfOne l.shape l.range by) l.table l.range (Ok text)) (nat_lt 1 (length l.by)) (take l.class-index l.by) l.text.items;
 }

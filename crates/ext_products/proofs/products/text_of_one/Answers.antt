@@ -1,46 +1,27 @@
-use Rattle.std.proofs.Common.{◌≡◌, ◌∙◌, ap, subst, refl}
-use Rattle.std.specs.Prelude.{Some, None}
-use Rattle.bidegree.specs.declared.range.Range.{Range}
-use Rattle.square.specs.Tables.{IsThrough}
-use Rattle.chain_map.specs.Lifting.{IsCanonicalIn}
-use Rattle.chain_map.specs.Classes.{through, missing_in}
-use Rattle.yoneda.specs.Products.{IsPlaceOf}
+use Rattle.std.proofs.Common.{◌≡◌, ◌∙◌, ℕ, List, ap, sym, subst}
+use Rattle.std.specs.Prelude.{Option, MatchOption, Result, Ok, Err, IsOkAnd}
+use Rattle.std.proofs.lemmas.Result.{IfOk-weaker}
+use Rattle.finite_module.specs.Checked.{sphere_file}
+use Rattle.finite_module.specs.DerivedAction.{derived_module}
+use Rattle.chain_map.specs.Classes.{through}
 use Rattle.ext_chart.specs.Classes.{product_lines_text}
+use Rattle.ext_products.specs.declared.refusal.Refusal.{Refusal}
 use Rattle.ext_products.specs.declared.refusal.Refusal.TheVariants.{NoClass}
 use Rattle.ext_products.specs.declared.refusal.Named.TheVariants.{By}
-use Rattle.ext_products.proofs.Transport.{text-answer, there-answer, refused-answer}
+use Rattle.ext_products.specs.Products.{resolution, IsProductsText}
 use Rattle.ext_products.proofs.products.text_of_one.Goals as goal
 
-pub returns-in-Ok-clause-text : goal.returns-in-Ok-clause-text
-returns-in-Ok-clause-text c =
-    let by = c.args.by in
-    let sphere = c.in_ok-sphere.sphere in
-    let made = c.in_ok-sphere.ensures in
-    let reach = c.reach_of-reach.ensures in
-    let a = c.in-Ok.a in
-    let are = subst (λ (r : Range). IsCanonicalIn r sphere) reach made.canonical in
-    let near = subst (λ (r : Range). IsThrough r sphere.rows) reach made.through in
-    let is = subst (λ (r : Range). IsPlaceOf sphere r by a) reach c.in-Ok.ensures.place in
-    let there = subst (λ (r : Range). missing_in (through r sphere) by ≡ None) reach c.in-Ok.ensures.there in
-    text-answer c.args.table.now sphere c.args.range by are made.sphere made.module_is c.lifts_give_one_product.ensures c.modules_are_graded_modules.ensures c.known.ensures.is_table c.in-Ok.ensures.is_table c.requires.through near
-    a is there c.in_ok-lines-in-Ok.lines.items c.in_ok-lines-in-Ok.ensures _ (c.in_ok-product_lines-in-Ok.ensures ∙ ap product_lines_text c.as_slice.ensures.value)
-
-pub returns-clause-refused : goal.returns-clause-refused
-returns-clause-refused c = λ other.
-    let by = c.args.by in
-    let sphere = c.in_ok-sphere.sphere in
-    let made = c.in_ok-sphere.ensures in
-    let reach = c.reach_of-reach.ensures in
-    let are = subst (λ (r : Range). IsCanonicalIn r sphere) reach made.canonical in
-    let missed = subst (λ (r : Range). missing_in (through r sphere) by ≡ Some c.in-Err.count) reach c.in-Err.ensures.missing in
-    (NoClass By by c.in-Err.count, refl, refused-answer c.args.table.now sphere c.args.range by are made.sphere made.module_is c.in-Err.count missed)
-
-pub returns-in-Ok-clause-there : goal.returns-in-Ok-clause-there
-returns-in-Ok-clause-there c =
-    let by = c.args.by in
-    let sphere = c.in_ok-sphere.sphere in
-    let made = c.in_ok-sphere.ensures in
-    let reach = c.reach_of-reach.ensures in
-    let are = subst (λ (r : Range). IsCanonicalIn r sphere) reach made.canonical in
-    let there = subst (λ (r : Range). missing_in (through r sphere) by ≡ None) reach c.in-Ok.ensures.there in
-    there-answer c.args.table.now sphere c.args.range by are made.sphere made.module_is there
+pub returns-clause-text : goal.returns-clause-text
+returns-clause-text c = λ all sphere canonical.
+    let text = c.in_ok-product_lines.field-0.items in
+    let answer : Result (List ℕ) Refusal = Ok text in
+    let q = resolution (derived_module sphere_file) sphere in
+    let made = c.in_ok-lines.ensures.lines all sphere canonical in
+    subst (λ (o : Option ℕ). MatchOption o (IsOkAnd answer (IsProductsText c.args.shape c.args.range c.args.by (through c.args.range c.args.table.now) q)) (λ n. answer ≡ Err (NoClass By c.args.by n))) (sym (c.in_ok-lines.ensures.there sphere canonical))
+    (record {
+      a = made.a;
+      at = made.at;
+      lines = c.in_ok-lines.lines.items;
+      are_lines = made.are_lines;
+      is = c.in_ok-product_lines.ensures ∙ ap product_lines_text c.as_slice.ensures.value;
+    })

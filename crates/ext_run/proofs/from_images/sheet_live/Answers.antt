@@ -6,6 +6,9 @@ use Rattle.live_worker.proofs.Reported.{retold}
 use Rattle.ext_run.specs.Inside.Images.{AreOfResolution}
 use Rattle.ext_run.proofs.ByImages.{rectangle, is_sheet_of}
 use Rattle.ext_run.proofs.Reporting.{told_there}
+use Rattle.bidegree.specs.declared.shape.Shape.TheVariants.{Rectangle}
+use Rattle.image_worker.specs.Worked.{AreImagesBy}
+use Rattle.ext_run.proofs.Courses.{course_kept, course_of_images, course_of_shape}
 use Rattle.ext_run.proofs.from_images.sheet_live.Goals as goal
 
 pub sheet_text-text-requires : goal.sheet_text-text-requires
@@ -31,3 +34,9 @@ returns-in-Ok-clause-reported g c = retold (squares_of c.args.range) c.images_li
 
 pub returns-in-Err-clause-reported : goal.returns-in-Err-clause-reported
 returns-in-Err-clause-reported g c = retold (squares_of c.args.range) c.images_live-made.result.0 _ c.images_live-made.result.1 _ _ _ _ tt c.images_live-made.ensures.reported
+
+pub returns-in-Ok-clause-course : goal.returns-in-Ok-clause-course
+returns-in-Ok-clause-course g c =
+    let m = c.args.resolved in
+    let by = subst (λ r. IfOk r (λ images. AreImagesBy c.args.workers m c.args.range Rectangle images.rows)) c.in-Ok.is c.images_live-made.ensures.worked in
+    course_kept c.sheet_text-text.result _ (course_of_shape c.args.workers c.args.range c.args.shape m.plain (course_of_images c.args.workers m c.args.range Rectangle c.in-Ok.images.rows by))

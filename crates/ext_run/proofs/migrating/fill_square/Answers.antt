@@ -34,7 +34,7 @@ pub returns-in_default : goal.returns-in_default
 returns-in_default g c =
     let t = to_z w32 (of_z w32 c.degree-t.result) in
     let degree : t ≡ bottom_of c.args.table.now.resolved +ℤ pos c.args.above = to_z-of_z w32 c.degree-t.result (record { sfits = c.degree-t.type_inv }) ∙ c.degree-t.ensures in
-    filled_left (disk g) (laws g) c.args.table.now c.args.file.now c.requires.file c.args.s c.args.above t degree (rw c.in_default.is at c.in_ok-quasi.ensures.none)
+    filled_left (disk g) (laws g) c.canonical_table_is_minimal_resolution.ensures c.modules_are_graded_modules.ensures c.args.table.now c.args.file.now c.requires.file c.args.s c.args.above t degree (rw c.in_default.is at c.in_ok-quasi.ensures.none)
 
 pub returns-in_default-add_quasi : goal.returns-in_default-add_quasi
 returns-in_default-add_quasi g c =

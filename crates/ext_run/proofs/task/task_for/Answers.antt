@@ -1,9 +1,9 @@
 use Rattle.std.proofs.Common.{Some, sym, subst}
 use Rattle.std.proofs.lemmas.Result.{err_from_is_err_and}
 use Rattle.ext_run.specs.declared.plan.Plan.{Plan}
-use Rattle.ext_run.specs.declared.plan.Plan.TheVariants.{Resolve, Check, Build, Migrate, Verify}
+use Rattle.ext_run.specs.declared.plan.Plan.TheVariants.{Resolve, Seek, Check, Build, Migrate, Verify}
 use Rattle.ext_run.specs.Answer.{IsTaskCauseFrom}
-use Rattle.ext_run.proofs.Tasks.{resolve_cause, check_cause, migrate_cause, verify_cause, build_cause, resolve_task, check_task, build_task, multiply_task, migrate_task, verify_task}
+use Rattle.ext_run.proofs.Tasks.{resolve_cause, seek_cause, check_cause, migrate_cause, verify_cause, build_cause, resolve_task, seek_task, check_task, build_task, multiply_task, migrate_task, verify_task}
 use Rattle.ext_run.proofs.task.task_for.Goals as goal
 
 pub returns-in_err-resolved-in-Resolve-clause-cause : goal.returns-in_err-resolved-in-Resolve-clause-cause
@@ -66,3 +66,15 @@ returns-in_ok-read_module-in-Migrate-clause-task g c = migrate_task c.args.plan 
 
 pub returns-in_ok-read_module-in-Verify-clause-task : goal.returns-in_ok-read_module-in-Verify-clause-task
 returns-in_ok-read_module-in-Verify-clause-task g c = verify_task c.args.plan c.in-Verify.range _ c.in_ok-read_module-in-Verify.field-0 c.in-Verify.is c.in_ok-read_module-in-Verify.ensures.module
+
+pub returns-in_err-resolved-in-Seek-clause-cause : goal.returns-in_err-resolved-in-Seek-clause-cause
+returns-in_err-resolved-in-Seek-clause-cause g c =
+    let p = err_from_is_err_and c.from_residual-in_err-resolved-in-Seek.result c.from_residual-in_err-resolved-in-Seek.ensures.1 in
+    let failure = c.in_err-resolved-in-Seek.field-0.0 in
+    let cause : IsTaskCauseFrom (Some (Seek c.in-Seek.sought c.in-Seek.workers)) (g.S.Source.left c.args.source.now) failure = seek_cause c.in-Seek.sought c.in-Seek.workers _ failure c.in_err-resolved-in-Seek.ensures.cause in
+    let here : IsTaskCauseFrom (Some c.args.plan) (g.S.Source.left c.args.source.now) failure = subst (λ (plan : Plan). IsTaskCauseFrom (Some plan) (g.S.Source.left c.args.source.now) failure) (sym c.in-Seek.is) cause in
+    rw (p.1, p.2) here
+
+pub returns-in_ok-resolved-in-Seek-clause-task : goal.returns-in_ok-resolved-in-Seek-clause-task
+returns-in_ok-resolved-in-Seek-clause-task g c =
+    seek_task c.args.plan c.in-Seek.sought c.in-Seek.workers _ c.in_ok-resolved-in-Seek.resolved _ c.in-Seek.is c.in_ok-resolved-in-Seek.ensures.module c.to_seek.ensures.task

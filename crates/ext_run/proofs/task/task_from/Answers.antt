@@ -28,7 +28,7 @@ returns-clause-task g c =
 
 pub returns-clause-answer : goal.returns-clause-answer
 returns-clause-answer g c =
-    let laws : Laws = record { tables = record { exists = c.canonical_table_exists.ensures; minimal = c.canonical_table_is_minimal_resolution.ensures; modules = c.modules_are_graded_modules.ensures; accepted = c.accepted_is_module.ensures }; products = c.products_answer_exists.ensures; brackets = c.bracket_answer_exists.ensures } in
+    let laws : Laws = record { tables = record { exists = c.canonical_table_exists.ensures; minimal = c.canonical_table_is_minimal_resolution.ensures; modules = c.modules_are_graded_modules.ensures; accepted = c.accepted_is_module.ensures }; products = c.each_layout_has_answer.ensures; one_product = c.one_product_answer_exists.ensures; brackets = c.bracket_answer_exists.ensures } in
     all_ok c.task_for.result HasItsAnswer (task_is_done laws)
 
 pub returns-clause-cause : goal.returns-clause-cause

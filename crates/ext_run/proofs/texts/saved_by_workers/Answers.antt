@@ -1,4 +1,4 @@
-use Rattle.std.proofs.Common.{sym, subst, Err, ◌∙◌}
+use Rattle.std.proofs.Common.{◌≢◌, sym, subst, Err, ◌∙◌}
 use Rattle.ext_report.specs.declared.failure.Failure.{Failure}
 use Rattle.ext_run.specs.Devices.{device_of, store_of}
 use Rattle.ext_run.specs.declared.task.Task.TheVariants.{Resolution}
@@ -9,6 +9,9 @@ use Rattle.ext_run.proofs.KeptOn.{kept_on, not_used}
 use Rattle.ext_run.proofs.TakenUp.{keeps_table, stays_if_whole}
 use Rattle.ext_run.proofs.Reporting.{heard_none}
 use Rattle.ext_run.proofs.texts.saved_by_workers.Given.{Over}
+use Rattle.ext_report.specs.declared.failure.Failure.TheVariants.{Saving}
+use Rattle.ext_run.specs.Courses.{HasText, shape_of, HasKeptCourse}
+use Rattle.ext_run.proofs.Courses.{kept_course, no_kept_course}
 use Rattle.ext_run.proofs.texts.saved_by_workers.Goals as goal
 
 laws : (g : Over) → AreDisks (store_of g.D.Disk.now g.D.Disk.moment g.D.Disk.images g.D.Disk.images_at g.D.Disk.since g.D.Disk.faults)
@@ -34,3 +37,17 @@ pub returns-in-Err-clause-heard : goal.returns-in-Err-clause-heard
 returns-in-Err-clause-heard g c =
     let common = c.args.resolution.common in
     heard_none _ _ (device_of g.E.Sink.written g.E.Sink.faults) (live_where common.live common.range) c.from.result c.args.err.now
+
+pub returns-in-Ok-clause-course : goal.returns-in-Ok-clause-course
+returns-in-Ok-clause-course g c =
+    let o = c.in-Ok.ensures in
+    let r = c.args.resolution in
+    let store = store_of g.D.Disk.now g.D.Disk.moment g.D.Disk.images g.D.Disk.images_at g.D.Disk.since g.D.Disk.faults in
+    let text = c.told_by_workers-text.result.0 in
+    subst (HasKeptCourse store r.common.workers r.common.range (shape_of r.form) r.resolved.plain (HasText text) (text ≢ Err Saving) c.args.disk) (sym c.into_disk.ensures)
+    (kept_course store (laws g) r.common.workers r.common.range (shape_of r.form) r.resolved (HasText text) (text ≢ Err Saving) c.args.disk c.in-Ok.table c.in-Ok.file c.over-keeper.result c.told_by_workers-text.result.1 c.over-keeper.ensures.made o.squares o.resolved o.keeper o.kept c.told_by_workers-text.ensures.continued.live c.told_by_workers-text.ensures.worked)
+
+pub returns-in-Err-clause-course : goal.returns-in-Err-clause-course
+returns-in-Err-clause-course g c =
+    let r = c.args.resolution in
+    no_kept_course (store_of g.D.Disk.now g.D.Disk.moment g.D.Disk.images g.D.Disk.images_at g.D.Disk.since g.D.Disk.faults) r.common.workers r.common.range (shape_of r.form) r.resolved.plain c.args.disk c.in-Err.disk (λ has. has)

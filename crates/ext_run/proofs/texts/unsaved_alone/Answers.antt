@@ -8,8 +8,8 @@ use Rattle.ext_run.proofs.texts.unsaved_alone.Goals as goal
 
 pub returns-in-Products-clause-told : goal.returns-in-Products-clause-told
 returns-in-Products-clause-told c = λ has.
-    subst (λ (form : Form). IsInForm form c.args.resolution.common.range c.args.resolution.resolved.plain (answer_of c.products_alone.result)) (sym (c.in-Products.is ∙ ap (λ (by : List Class). Products by) (sym c.as_slice.ensures))) (c.products_alone.ensures.told has)
+    subst (λ (form : Form). IsInForm form c.args.resolution.common.range c.args.resolution.resolved.plain (answer_of c.products_alone.result)) (sym (c.in-Products.is ∙ ap (λ (by : List Class). Products c.in-Products.layout by c.in-Products.shape) (sym c.as_slice.ensures))) (c.products_alone.ensures.told has)
 
-pub returns-in-Bracket-clause-told : goal.returns-in-Bracket-clause-told
-returns-in-Bracket-clause-told c = λ has.
-    subst (λ (form : Form). IsInForm form c.args.resolution.common.range c.args.resolution.resolved.plain (answer_of c.bracket_alone.result)) (sym c.in-Bracket.is) (c.bracket_alone.ensures.told has)
+pub returns-in-Sought-clause-told : goal.returns-in-Sought-clause-told
+returns-in-Sought-clause-told c = λ has.
+    subst (λ (form : Form). IsInForm form c.args.resolution.common.range c.args.resolution.resolved.plain (answer_of c.sought_alone.result)) (sym c.in-Sought.is) (c.sought_alone.ensures.told has)

@@ -1,5 +1,5 @@
 use Rattle.std.proofs.Common.{◌≡◌, ◌∙◌, ap₂, false}
-use Rattle.std.proofs.lemmas.Result.{IfOk-weaker}
+use Rattle.std.proofs.lemmas.Result.{IfOk-weaker, err_from_is_err_and}
 use Rattle.clap.specs.Words.{AddsSubcommand}
 use Rattle.clap.specs.Simple.{App, app_of, with_subcommand}
 use Rattle.clap.specs.declared.builder.command.Command.{Command}
@@ -17,9 +17,28 @@ returns c =
     let dump = more _ _ _ _ _ resolve c.in_ok-command_with-3.ensures.app c.in_ok-command_with-3.ensures.local c.in_ok-subcommand-3.ensures in
     let products = more _ _ _ _ _ dump c.in_ok-command_with-4.ensures.app c.in_ok-command_with-4.ensures.local c.in_ok-subcommand-4.ensures in
     let massey = more _ _ _ _ _ products c.in_ok-command_with-5.ensures.app c.in_ok-command_with-5.ensures.local c.in_ok-subcommand-5.ensures in
-    let check = more _ _ _ _ _ massey c.in_ok-command_with-6.ensures.app c.in_ok-command_with-6.ensures.local c.in_ok-subcommand-6.ensures in
-    let build = more _ _ _ _ _ check c.in_ok-command_with-7.ensures.app c.in_ok-command_with-7.ensures.local c.in_ok-subcommand-7.ensures in
-    let sample = more _ _ _ _ _ build c.in_ok-command_with-8.ensures.app c.in_ok-command_with-8.ensures.local c.in_ok-subcommand-8.ensures in
-    let sq = more _ _ _ _ _ sample c.in_ok-command_with-9.ensures.app c.in_ok-command_with-9.ensures.local c.in_ok-subcommand-9.ensures in
-    let migrate = more _ _ _ _ _ sq c.in_ok-command_with-10.ensures.app c.in_ok-command_with-10.ensures.local c.in_ok-subcommand-10.ensures in
-    IfOk-weaker c.subcommand-11.result _ _ (λ line added. more _ _ _ _ _ migrate c.in_ok-command_with-11.ensures.app c.in_ok-command_with-11.ensures.local added) c.subcommand-11.ensures
+    let product = more _ _ _ _ _ massey c.in_ok-command_with-6.ensures.app c.in_ok-command_with-6.ensures.local c.in_ok-subcommand-6.ensures in
+    let bracket = more _ _ _ _ _ product c.in_ok-command_with-7.ensures.app c.in_ok-command_with-7.ensures.local c.in_ok-subcommand-7.ensures in
+    let check = more _ _ _ _ _ bracket c.in_ok-command_with-8.ensures.app c.in_ok-command_with-8.ensures.local c.in_ok-subcommand-8.ensures in
+    let build = more _ _ _ _ _ check c.in_ok-command_with-9.ensures.app c.in_ok-command_with-9.ensures.local c.in_ok-subcommand-9.ensures in
+    let sample = more _ _ _ _ _ build c.in_ok-command_with-10.ensures.app c.in_ok-command_with-10.ensures.local c.in_ok-subcommand-10.ensures in
+    let sq = more _ _ _ _ _ sample c.in_ok-command_with-11.ensures.app c.in_ok-command_with-11.ensures.local c.in_ok-subcommand-11.ensures in
+    let migrate = more _ _ _ _ _ sq c.in_ok-command_with-12.ensures.app c.in_ok-command_with-12.ensures.local c.in_ok-subcommand-12.ensures in
+    let verify = more _ _ _ _ _ migrate c.in_ok-command_with-13.ensures.app c.in_ok-command_with-13.ensures.local c.in_ok-subcommand-13.ensures in
+    IfOk-weaker c.subcommand-14.result _ _ (λ line added. more _ _ _ _ _ verify c.in_ok-command_with-14.ensures.app c.in_ok-command_with-14.ensures.local added) c.subcommand-14.ensures
+
+-- what the last calls that may fail hand out
+pub returns-in_err-command_with-12 : goal.returns-in_err-command_with-12
+returns-in_err-command_with-12 c =
+    let p = err_from_is_err_and c.from_residual-in_err-command_with-12.result c.from_residual-in_err-command_with-12.ensures.1 in
+    rw p.1 tt
+
+pub returns-in_err-command_with-13 : goal.returns-in_err-command_with-13
+returns-in_err-command_with-13 c =
+    let p = err_from_is_err_and c.from_residual-in_err-command_with-13.result c.from_residual-in_err-command_with-13.ensures.1 in
+    rw p.1 tt
+
+pub returns-in_err-command_with-14 : goal.returns-in_err-command_with-14
+returns-in_err-command_with-14 c =
+    let p = err_from_is_err_and c.from_residual-in_err-command_with-14.result c.from_residual-in_err-command_with-14.ensures.1 in
+    rw p.1 tt

@@ -1,0 +1,6 @@
+mod Growing
+pub mod Layouts
+mod Places
+mod Same
+mod There
+mod Told
