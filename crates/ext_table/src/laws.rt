@@ -9,7 +9,7 @@ pub fn each_layout_has_answer()
     lift_laws::lifts_give_one_product();
 }
 
-/// And at most one.
+/// There is at most one answer in each layout.
 pub fn each_layout_has_one_answer()
     ensures { EachLayoutHasOneAnswer }
 {}
