@@ -45,7 +45,8 @@ pub(crate) fn products_alone(
     requires rows { range.s ≤ MAX_S }
     requires degrees { range.t ≤ MAX_T }
     ensures told { HasAnswer result → IsInForm (ProductsOf layout by.now shape) range resolved.plain (answer_of result) }
-    ensures why { IfErr result (λ e. (e ≡ WantOfMemory) ⊎ IsRefusedIn (ProductsOf layout by.now shape) range resolved.plain (Err e)) }
+    ensures why { IfErr result
+        (λ e. (e ≡ WantOfMemory) ⊎ IsRefusedIn (ProductsOf layout by.now shape) range resolved.plain (Err e)) }
 {
     canonical_table_exists();
     canonical_table_is_minimal_resolution();
@@ -76,7 +77,8 @@ pub(crate) fn products_by<W: Threads + Wait + Clock + Sync, G: Gate + Sync>(
     requires rows { range.s ≤ MAX_S }
     requires degrees { range.t ≤ MAX_T }
     ensures told { HasAnswer result → IsInForm (ProductsOf layout by.now shape) range resolved.plain (answer_of result) }
-    ensures why { IfErr result (λ e. (e ≡ WantOfMemory) ⊎ IsRefusedIn (ProductsOf layout by.now shape) range resolved.plain (Err e)) }
+    ensures why { IfErr result
+        (λ e. (e ≡ WantOfMemory) ⊎ IsRefusedIn (ProductsOf layout by.now shape) range resolved.plain (Err e)) }
     ensures course { HasCourse workers range shape resolved.plain (HasText result) }
 {
     canonical_table_exists();
@@ -155,7 +157,8 @@ fn products_over(
     requires degrees { range.t ≤ MAX_T }
     requires images { AreForProducts shape range by.now images.now.resolved images.now }
     requires there { list_all (λ class. class.s == 1) by.now ≡ true → All (IsH range) by.now }
-    ensures told { HasAnswer result → IsInForm (ProductsOf layout by.now shape) range images.now.resolved.plain (answer_of result) }
+    ensures told { HasAnswer result →
+        IsInForm (ProductsOf layout by.now shape) range images.now.resolved.plain (answer_of result) }
     ensures why { IfErr result
         (λ e. (e ≡ WantOfMemory) ⊎ IsRefusedIn (ProductsOf layout by.now shape) range images.now.resolved.plain (Err e)) }
 {
